@@ -1,39 +1,60 @@
--- Two refusals with one number are one refusal, and `number` has no second answer.
+-- Two refusals with one number are one refusal, two times that say the same are one, and no function here has a second answer.
 -- Assumes nothing.
-use mathlib.Core.Path.{_≡_, refl}
+use mathlib.Core.Path.{_≡_, refl, ap}
 use mathlib.Core.List.{List, [], _∷_}
-use Prim.Native.Nat.{ℕ}
+use Prim.Native.Nat.{ℕ, _+_}
 use lib.ListN.{getD}
 use Rattle.theory.specs.Promise.{NoSecond, TellsApart}
 use Rattle.theory.proofs.Promise.{by-rule, plain-apart, undone-apart}
 use Rattle.refusals.specs.declared.Refusal.{Refusal}
 use Rattle.refusals.specs.declared.Refusal.the-variants.{Unsound, Closed, DeadHandle, Full, ShortList, TimeOverflow, CounterBehind, WrongMode, ZeroPeriod, NotFired, VacantSlot, BadRecord}
+use Rattle.refusals.specs.declared.time.Time.{Time}
+use Rattle.refusals.specs.declared.time.Time.the-variants.{At, Refused}
 use Rattle.refusals.specs.Numbers.{numberOf, Numbers}
+use Rattle.refusals.specs.Answer.{Answer, accepted, refused}
+use Rattle.refusals.specs.Times.{timely, said, Sums}
 
--- the refusal of a number; the table starts at 1
-abbrev refusalOf : ℕ → Refusal
+-- the refusal of a number, to undo `numberOf`; the table starts at 1
+abbrev pub refusalOf : ℕ → Refusal
 refusalOf n =
     getD
     (Unsound ∷ Unsound ∷ Closed ∷ DeadHandle ∷ Full ∷ ShortList ∷ TimeOverflow ∷ CounterBehind ∷ WrongMode ∷ ZeroPeriod ∷ NotFired
     ∷ VacantSlot ∷ BadRecord ∷ [])
     n Unsound
 
-back : (r : Refusal) → refusalOf (numberOf r) ≡ r
-back Unsound = refl
-back Closed = refl
-back DeadHandle = refl
-back Full = refl
-back ShortList = refl
-back TimeOverflow = refl
-back CounterBehind = refl
-back WrongMode = refl
-back ZeroPeriod = refl
-back NotFired = refl
-back VacantSlot = refl
-back BadRecord = refl
+-- a refusal is that of its number
+pub refusal-back : (r : Refusal) → refusalOf (numberOf r) ≡ r
+refusal-back Unsound = refl
+refusal-back Closed = refl
+refusal-back DeadHandle = refl
+refusal-back Full = refl
+refusal-back ShortList = refl
+refusal-back TimeOverflow = refl
+refusal-back CounterBehind = refl
+refusal-back WrongMode = refl
+refusal-back ZeroPeriod = refl
+refusal-back NotFired = refl
+refusal-back VacantSlot = refl
+refusal-back BadRecord = refl
 
+-- two refusals with one number are one
 pub number-apart : TellsApart numberOf
-number-apart = undone-apart numberOf refusalOf back
+number-apart = undone-apart numberOf refusalOf refusal-back
 
 pub number-no-second : NoSecond Numbers
 number-no-second = by-rule (λ (n : ℕ). n) numberOf plain-apart
+
+-- what a time says tells any two apart
+pub said-apart : TellsApart said
+said-apart = undone-apart said timeOf back
+  where
+    timeOf : Answer ℕ → Time
+    timeOf (accepted t) = At t
+    timeOf (refused n) = Refused (refusalOf n)
+
+    back : (r : Time) → timeOf (said r) ≡ r
+    back (At t) = refl
+    back (Refused r) = ap Refused (refusal-back r)
+
+pub sum-no-second : NoSecond (λ (q : ℕ × ℕ) (r : Time). Sums (q .0) (q .1) r)
+sum-no-second = by-rule said (λ (q : ℕ × ℕ). timely (q .0 + q .1)) said-apart

@@ -1,5 +1,7 @@
 // Why a call is refused: the table of refusals, one case a number. A name says what is wrong, and `number` gives the number
 // that the outside world knows.
+pub mod time;
+
 ghost use Rattle.refusals.specs.Numbers.{Numbers};
 
 pub enum Refusal {

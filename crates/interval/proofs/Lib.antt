@@ -1,0 +1,2 @@
+pub mod Late
+pub mod NoSecond

@@ -1,0 +1,40 @@
+-- Where N + period fits, the remainder of N - T, which is at most N, can be taken off it.
+-- Assumes nothing.
+use mathlib.Core.Path.{_≡_}
+use Prim.Native.Nat.{_+_, _-_}
+use native.Mathlib.Nat.{mod-le}
+use native.Mathlib.Omega.{arith}
+use borrow.Author.Tests.{eq-eqb, ne-eqb}
+use Rattle.refusals.proofs.Times.{timely-value}
+use borrow.Author.Needs.{needs}
+use Rattle.interval.proofs.skipped.Statement.{statement}
+use Rattle.interval.proofs.skipped.Tie as tie
+
+time-is : (c : tie.After-known-told) → c .before .time .given .0 .0 ≡ c .before .before .before .before .before .args .reading + c .before .before .before .before .before .args .period
+time-is c = timely-value _ _ (rw (c .before .time .given .1) at (c .before .before .before .sum .ensures))
+
+returns : tie.Need-returns
+returns c = rw (eq-eqb _ _ (c .if1 .taken))
+
+sub-t12 : tie.Need-sub-t12
+sub-t12 c = omega (arith, time-is c, mod-le (c .before .before .before .before .before .args .reading - c .before .before .before .before .before .args .due) (c .before .before .before .before .before .args .period))
+
+returns-2 : tie.Need-returns-2
+returns-2 c = rw (ne-eqb _ _ (c .before .before .before .before .if1 .left), ← (rw (c .before .time .given .1) at (c .before .before .before .sum .ensures)))
+
+returns-3 : tie.Need-returns-3
+returns-3 c = rw (ne-eqb _ _ (c .before .before .before .before .if1 .left), ← (rw (c .before .why .given .1) at (c .before .before .before .sum .ensures)))
+
+pub skipped-spec : {M : Type 1} → statement M
+skipped-spec =
+    tie.close
+    (tie.spec
+    returns
+    (λ c κs. search needs)
+    (λ c. search needs)
+    (λ c. search needs)
+    (λ c. search needs)
+    sub-t12
+    (λ c. search needs)
+    returns-2
+    returns-3)
