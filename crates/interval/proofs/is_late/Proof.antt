@@ -11,5 +11,9 @@ use Rattle.interval.proofs.is_late.Tie as tie
 returns : tie.Need-returns
 returns c = sym (le-ltb (c .before .args .due + 5000000) (c .before .args .reading) (omega arith))
 
+-- T + 5 ms does not wrap
+add-result : tie.Need-add-result
+add-result c = omega arith
+
 pub is-late-spec : {M : Type 1} → statement M
-is-late-spec = tie.close (tie.spec returns (λ c. search needs) (λ c. search needs))
+is-late-spec = tie.close (tie.spec returns add-result (λ c. search needs))
