@@ -96,24 +96,24 @@ but-sound : (f : ℕ → Bool) (n x : ℕ) (l : List ℕ) → Distinct (x ∷ l)
 but-sound f n x l d h y m = (h y (inr m) .0, but-other f x y (λ e. d .0 (subst (λ (k : ℕ). Mem k l) e m)) ∙ h y (inr m) .1)
 
 -- the pigeonhole: a list that repeats nothing, names only numbers that pass, and is as long as their count names all of them
-pub full : (l : List ℕ) (f : ℕ → Bool) (n : ℕ) → Distinct l → ((y : ℕ) → Mem y l → (y < n) × (f y ≡ true))
+pub pigeonhole : (l : List ℕ) (f : ℕ → Bool) (n : ℕ) → Distinct l → ((y : ℕ) → Mem y l → (y < n) × (f y ≡ true))
     → length l ≡ count f n → (i : ℕ) → i < n → f i ≡ true → Mem i l
-full [] f n d h e i b t = count-zero f n (sym e) i b t
-full (x ∷ l) f n d h e i b t =
+pigeonhole [] f n d h e i b t = count-zero f n (sym e) i b t
+pigeonhole (x ∷ l) f n d h e i b t =
     elim (ℕ-discrete i x) [
       | yes q ↦ inl q
       | no q ↦
           inr
-          (full l (but f x) n (d .1) (but-sound f n x l d h)
+          (pigeonhole l (but f x) n (d .1) (but-sound f n x l d h)
           (omega (arith, e, count-but f n x (h x (inl refl) .0) (h x (inl refl) .1))) i b (but-other f x i q ∙ t))
     ]
 
 -- a list that names each number that passes once, and no other, is as long as their count
-pub full-length : (l : List ℕ) (f : ℕ → Bool) (n : ℕ) → Lists f n l → length l ≡ count f n
-full-length [] f n h = sym (count-none f n (λ i b. is-false (f i) (h .whole i b)))
-full-length (x ∷ l) f n h =
+pub lists-length : (l : List ℕ) (f : ℕ → Bool) (n : ℕ) → Lists f n l → length l ≡ count f n
+lists-length [] f n h = sym (count-none f n (λ i b. is-false (f i) (h .whole i b)))
+lists-length (x ∷ l) f n h =
     ap suc
-    (full-length l (but f x) n
+    (lists-length l (but f x) n
     (record {
       once = h .once .1;
       sound = but-sound f n x l (h .once) (h .sound);

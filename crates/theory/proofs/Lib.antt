@@ -4,3 +4,7 @@ pub mod Update
 pub mod Stores
 pub mod Counting
 pub mod Occurs
+pub mod Chain
+pub mod ChainTest
+pub mod ChainChange
+pub mod ChainFault
