@@ -8,3 +8,8 @@ pub mod Chain
 pub mod ChainTest
 pub mod ChainChange
 pub mod ChainFault
+pub mod Order
+pub mod Weights
+pub mod Exchange
+pub mod Child
+pub mod Walks
