@@ -13,3 +13,10 @@ pub mod Weights
 pub mod Exchange
 pub mod Child
 pub mod Walks
+pub mod Kept
+pub mod Entries
+pub mod Logarithm
+pub mod Swaps
+pub mod Pops
+pub mod OrderTest
+pub mod Array
