@@ -4,7 +4,7 @@ use mathlib.Core.Path.{_≡_, ap, _∙_}
 use mathlib.Core.List.{List, [], _∷_, _++_}
 use Prim.Native.Nat.{ℕ, suc, _-_, _≤_, _<_}
 use native.Mathlib.Omega.{arith}
-use lib.ListN.{length, take, length-append, List·getD-append}
+use lib.ListN.{length, length-append, List·getD-append}
 use lib.Seq.{getD-take, length-take-le}
 use Rattle.theory.specs.Order.{parent, Heap, UpOrd, DownOrd}
 use Rattle.theory.specs.Heap.{Moved, at, Ordered, Good, push, fill, removeAt}

@@ -4,9 +4,8 @@ use mathlib.Core.Path.{_≡_, refl}
 use mathlib.Core.Logic.{_≢_}
 use mathlib.Core.Bool.{true}
 use mathlib.Core.List.{List, _∷_}
-use Prim.Native.Nat.{ℕ, suc, _+_}
+use Prim.Native.Nat.{suc}
 use native.Mathlib.Omega.{arith}
-use Rattle.theory.specs.Tests.{isYes}
 use Rattle.theory.specs.Occurs.{times, has}
 use Rattle.theory.proofs.Tests.{yes-isYes, no-isYes}
 

@@ -7,7 +7,7 @@ use native.Mathlib.Decide.{ℕ-discrete}
 use native.Mathlib.Omega.{arith}
 use Rattle.theory.specs.Order.{parent, Heap, Under, Swapped, Place, first, second, apart, UpOrd, DownOrd}
 
--- a goal, by whether two numbers are the same
+-- to show a goal it is enough to show it where the two numbers are equal, and where they are not
 pub split {ℓ} : {G : Type ℓ} (a b : ℕ) → (a ≡ b → G) → (a ≢ b → G) → G
 split a b f g = by-cases (ℕ-discrete a b) f g
 

@@ -17,7 +17,7 @@ use Rattle.theory.proofs.Kept.{remove-good, remove-ordered}
 use Rattle.theory.proofs.Entries.{remove-total}
 
 module _ {A : Type 0} (key : A → ℕ) (d : A) where
-  -- what all entries have, all that a removal leaves have
+  -- a removal leaves no entry without what every entry had
   pub remove-all : (P : A → Type 0) → ((x : A) → Dec (P x)) → (xs : List A) (i : ℕ) → i < length xs → All P xs → All P (removeAt key d xs i .list)
   remove-all P dec xs i h a = sub-all P dec xs (removeAt key d xs i .list) (λ w. omega (arith, remove-total key d w xs i h)) a
 
@@ -90,7 +90,7 @@ module _ {A : Type 0} (key : A → ℕ) (d : A) where
       (λ q. pop-left f (removeAt key d (x ∷ xs) 0 .list) m (omega (arith, g .size)) (remove-ordered key d (x ∷ xs) 0 (zero-lt-suc (length xs)) o))
       (λ q. all-places (λ y. m < key y) d (x ∷ xs) (λ i h. omega (arith, head-least o i h)))
 
-  -- where the limit is not less than the count, the entries with keys at most m come out, each as often as it was there, and no others
+  -- where the limit is not less than the count, what comes out is what there was with a key at most m: by every weight it weighs the same
   pub pop-exact : (w : A → ℕ) (f : ℕ) (xs : List A) (m : ℕ) → length xs ≤ f → Ordered key d xs → total w (popWhile key d f xs m .out) ≡ total (upTo key m w) xs
   pop-exact w f xs m b o =
       omega (

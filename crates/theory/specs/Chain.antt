@@ -1,5 +1,6 @@
--- A chain by number: a head names a node, each node names the next by `next`, and the last one names none. `ok` is the test that
--- a node must pass. How many numbers pass is the most that a walk needs, so no walk has to remember where it has been.
+-- Nodes that are numbers, linked into a chain: what a chain is, the test of one, and where it goes wrong first. Throughout, `next`
+-- is the node that a node names, if any, and `ok` the test that each node has to pass. A walk counts the nodes that it has yet to
+-- meet, so it needs no memory of those that it met.
 -- Assumes nothing.
 use mathlib.Core.Path.{_≡_}
 use mathlib.Core.Logic.{_⊎_}

@@ -7,7 +7,7 @@ use mathlib.Core.List.{List, [], _∷_}
 use Prim.Native.Nat.{ℕ, zero, suc, _<_}
 use lib.Dec.{eqb}
 
--- n, and one more where the test passed
+-- the count so far, raised by 1 for a number that passes
 abbrev pub tally : Bool → ℕ → ℕ
 tally true n = suc n
 tally false n = n
