@@ -12,7 +12,7 @@ use lib.ListN.{length}
 use Rattle.theory.specs.Counting.{count, Mem, Distinct, Lists}
 use Rattle.theory.specs.Chain.{walkb, nodes, Chain}
 use Rattle.theory.proofs.Tests.{true-false, and-left, and-right}
-use Rattle.theory.proofs.Counting.{pigeonhole}
+use Rattle.theory.proofs.Pigeonhole.{pigeonhole}
 
 module _ (ok : ℕ → Bool) (next : ℕ → Option ℕ) where
   -- a walk at a node with n nodes to go: the node is tested, and n - 1 are to go

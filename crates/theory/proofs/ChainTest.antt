@@ -9,7 +9,7 @@ use lib.ListN.{length}
 use Rattle.theory.specs.Counting.{count, Lists}
 use Rattle.theory.specs.Chain.{walkb, nodes, Chain, chainOkb, chainOf}
 use Rattle.theory.proofs.Tests.{true-false}
-use Rattle.theory.proofs.Counting.{lists-length}
+use Rattle.theory.proofs.Pigeonhole.{lists-length}
 use Rattle.theory.proofs.Chain.{walk-chain, chain-walk, chain-nodes, chain-head, chain-lists}
 
 module _ (ok : ℕ → Bool) (next : ℕ → Option ℕ) (cap : ℕ) where

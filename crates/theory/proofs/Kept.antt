@@ -33,11 +33,11 @@ module _ {A : Type 0} (key : A → ℕ) (d : A) where
       down-heap r (omega (arith, length-swap d xs i c)) b
       (down-step u p b q l m (swapped d xs i c (omega arith) (omega arith) (omega arith) key))
 
-  -- the same of a whole list: as many entries, in heap order
+  -- a walk up from the one place of a list that may be too small leaves as many entries, in heap order
   pub up-good : {xs ys : List A} {i j s : ℕ} → Up key d xs i ys j s → (n : ℕ) → length xs ≡ n → i < n → UpOrd (at key d xs) n i → Good key d n ys
   up-good r n e h u = record { size = up-length key d r ∙ e; heap = up-heap r n (omega arith) h u }
 
-  -- and of a walk down
+  -- a walk down from the one place of a list that may be too large leaves as many entries, in heap order
   pub down-good : {n : ℕ} {xs ys : List A} {i j s : ℕ} → Down key d n xs i ys j s → length xs ≡ n → i < n → DownOrd (at key d xs) n i → Good key d n ys
   down-good r e h u = record { size = down-length key d r ∙ e; heap = down-heap r (omega arith) h u }
 

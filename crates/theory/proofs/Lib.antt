@@ -3,6 +3,7 @@ pub mod Tests
 pub mod Update
 pub mod Stores
 pub mod Counting
+pub mod Pigeonhole
 pub mod Occurs
 pub mod Chain
 pub mod ChainTest
