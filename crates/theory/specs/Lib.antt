@@ -1,1 +1,11 @@
 pub mod Promise
+pub mod Tests
+pub mod Update
+pub mod Counting
+pub mod Occurs
+pub mod Chain
+pub mod Order
+pub mod Heap
+pub mod Walks
+pub mod Weights
+pub mod Logarithm

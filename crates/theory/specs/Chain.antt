@@ -1,0 +1,65 @@
+-- Nodes that are numbers, linked into a chain: what a chain is, the test of one, and where it goes wrong first. Throughout, `next`
+-- is the node that a node names, if any, and `ok` the test that each node has to pass. A walk counts the nodes that it has yet to
+-- meet, so it needs no memory of those that it met.
+-- Assumes nothing.
+use mathlib.Core.Path.{_≡_}
+use mathlib.Core.Logic.{_⊎_}
+use mathlib.Core.Bool.{Bool, true, false, _&&_, cond}
+use mathlib.Core.Option.{Option, none, some}
+use mathlib.Core.List.{List, [], _∷_}
+use Prim.Native.Nat.{ℕ, zero, suc, _+_, _<_}
+use lib.Dec.{eqb}
+use Rattle.theory.specs.Counting.{count}
+
+-- a link that is kept as a number, where the number `end` stands for none
+abbrev pub unless : ℕ → ℕ → Option ℕ
+unless end h = cond (eqb h end) none (some h)
+
+-- whether the chain from h ends after exactly n nodes, all of which pass
+unfoldable pub walkb : (ℕ → Bool) → (ℕ → Option ℕ) → ℕ → Option ℕ → Bool
+walkb ok next zero none = true
+walkb ok next zero (some x) = false
+walkb ok next (suc n) none = false
+walkb ok next (suc n) (some x) = ok x && walkb ok next n (next x)
+
+-- the nodes met from h on, n of them at most
+unfoldable pub nodes : (ℕ → Option ℕ) → ℕ → Option ℕ → List ℕ
+nodes next zero h = []
+nodes next (suc n) none = []
+nodes next (suc n) (some x) = x ∷ nodes next n (next x)
+
+-- the chain from h is the list, node by node to its end, and every node passes
+abbrev pub Chain : (ℕ → Bool) → (ℕ → Option ℕ) → Option ℕ → List ℕ → Type 0
+Chain ok next h [] = h ≡ none
+Chain ok next h (x ∷ l) = (h ≡ some x) × (ok x ≡ true) × Chain ok next (next x) l
+
+-- the test of a chain: from h it goes through as many nodes that pass as there are numbers below cap that pass, and ends
+unfoldable pub chainOkb : (ℕ → Bool) → (ℕ → Option ℕ) → ℕ → Option ℕ → Bool
+chainOkb ok next cap h = walkb ok next (count ok cap) h
+
+-- the list of that chain's nodes
+unfoldable pub chainOf : (ℕ → Bool) → (ℕ → Option ℕ) → ℕ → Option ℕ → List ℕ
+chainOf ok next cap h = nodes next (count ok cap) h
+
+-- where a walk that should have n more nodes goes wrong first, counted from k: a node that does not pass, an end too soon, or a
+-- node too many; none where it does not
+unfoldable pub faultAt : (ℕ → Bool) → (ℕ → Option ℕ) → ℕ → ℕ → Option ℕ → Option ℕ
+faultAt ok next zero k none = none
+faultAt ok next zero k (some x) = some k
+faultAt ok next (suc n) k none = some k
+faultAt ok next (suc n) k (some x) = cond (ok x) (faultAt ok next n (k + 1) (next x)) (some k)
+
+-- yes where no fault was found
+abbrev pub noFault : Option ℕ → Bool
+noFault none = true
+noFault (some k) = false
+
+-- the walk from h goes through the list's nodes, all of which pass, and stands at m then
+abbrev pub Runs : (ℕ → Bool) → (ℕ → Option ℕ) → Option ℕ → List ℕ → Option ℕ → Type 0
+Runs ok next h [] m = h ≡ m
+Runs ok next h (x ∷ l) m = (h ≡ some x) × (ok x ≡ true) × Runs ok next (next x) l m
+
+-- why a walk with r nodes to go cannot go on from m: it has ended, or the node does not pass, or none was to come
+abbrev pub Wrong : (ℕ → Bool) → ℕ → Option ℕ → Type 0
+Wrong ok r none = 0 < r
+Wrong ok r (some x) = (ok x ≡ false) ⊎ (r ≡ 0)
