@@ -1,0 +1,6 @@
+pub mod Capacity
+pub mod Rules
+pub mod Faults
+pub mod Sound
+pub mod Calls
+pub mod Promises

@@ -1,0 +1,148 @@
+// The heap test: what is wrong with a heap, as scans that stop at the first fault. It is total on any value: counts beyond the
+// capacity, slots out of range, free chains that loop or leave the slab.
+use crate::CAP;
+use crate::Heap;
+use crate::SlotState;
+ghost use mathlib.Core.Path.{_≡_};
+ghost use Prim.Native.Nat.{_≤_};
+ghost use Rattle.theory.specs.Counting.{count};
+ghost use Rattle.heap.specs.Capacity.{cap};
+ghost use Rattle.heap.specs.Sound.{Counted};
+ghost use Rattle.heap.specs.Faults.{fullAt, countFault, positionFault, orderFault, chainFault, faultOf};
+
+// What is wrong with a heap, and where.
+pub enum Fault {
+    No,
+    // too many entries or slots, or not as many entries as full slots
+    Count,
+    // the first position whose entry and slot do not name each other
+    Position(usize),
+    // the first position whose entry is smaller than its parent
+    Order(usize),
+    // the step along the free chain at which it goes wrong
+    FreeChain(usize),
+}
+
+// The first fault of a heap, in the order of the kinds.
+pub fn first_fault(h: Heap) -> Fault
+    ensures { λ r. ⌜ r ≡ faultOf h ⌝ }
+{
+    let c = count_fault(h);
+    let Fault::No = c else {
+        return c;
+    };
+    let p = position_fault(h);
+    let Fault::No = p else {
+        return p;
+    };
+    let o = order_fault(h);
+    let Fault::No = o else {
+        return o;
+    };
+    chain_fault(h)
+}
+
+// Whether the counts are wrong.
+fn count_fault(h: Heap) -> Fault
+    ensures { λ r. ⌜ r ≡ countFault h ⌝ }
+{
+    if CAP < h.len {
+        return Fault::Count;
+    }
+    if CAP < h.made {
+        return Fault::Count;
+    }
+    if full_count(h) == h.len {
+        Fault::No
+    } else {
+        Fault::Count
+    }
+}
+
+// How many of the slots that were made are full.
+fn full_count(h: Heap) -> usize
+    requires { ⌜ h .made ≤ cap ⌝ }
+    ensures { λ r. ⌜ r ≡ count (fullAt h) (h .made) ⌝ }
+{
+    let mut n: usize = 0;
+    let mut s: usize = 0;
+    while s < h.made {
+        let x = h.slots[s];
+        let st = x.state;
+        if let SlotState::Full(_) = st {
+            n += 1;
+        }
+        s += 1;
+    }
+    n
+}
+
+// The first position whose entry's slot was not made, is empty, or names another position.
+fn position_fault(h: Heap) -> Fault
+    requires { ⌜ (h .len ≤ cap) × (h .made ≤ cap) ⌝ }
+    ensures { λ r. ⌜ r ≡ positionFault h ⌝ }
+{
+    let mut i: usize = 0;
+    while i < h.len {
+        let e = h.entries[i];
+        let s = e.slot.0 as usize;
+        if h.made <= s {
+            return Fault::Position(i);
+        }
+        let x = h.slots[s];
+        let st = x.state;
+        let SlotState::Full(pos) = st else {
+            return Fault::Position(i);
+        };
+        if pos.0 as usize != i {
+            return Fault::Position(i);
+        }
+        i += 1;
+    }
+    Fault::No
+}
+
+// The first position whose entry is smaller than its parent.
+fn order_fault(h: Heap) -> Fault
+    requires { ⌜ h .len ≤ cap ⌝ }
+    ensures { λ r. ⌜ r ≡ orderFault h ⌝ }
+{
+    let mut i: usize = 1;
+    while i < h.len {
+        let e = h.entries[i];
+        let p = h.entries[(i - 1) / 2];
+        if crate::before(e, p) {
+            return Fault::Order(i);
+        }
+        i += 1;
+    }
+    Fault::No
+}
+
+// The step at which the free chain meets a slot that is not empty, ends too soon, or goes on too long.
+fn chain_fault(h: Heap) -> Fault
+    requires { ⌜ Counted h ⌝ }
+    ensures { λ r. ⌜ r ≡ chainFault h ⌝ }
+{
+    let mut left = h.made - h.len;
+    let mut step: usize = 0;
+    let mut at = h.free.0 as usize;
+    while 0 < left {
+        if h.made <= at {
+            return Fault::FreeChain(step);
+        }
+        let x = h.slots[at];
+        let st = x.state;
+        let SlotState::Empty(next) = st else {
+            return Fault::FreeChain(step);
+        };
+        at = next.0 as usize;
+        left -= 1;
+        step += 1;
+    }
+    if at == h.made {
+        Fault::No
+    } else {
+        Fault::FreeChain(step)
+    }
+}
