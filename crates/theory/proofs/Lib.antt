@@ -21,3 +21,4 @@ pub mod Swaps
 pub mod Pops
 pub mod OrderTest
 pub mod Array
+pub mod First

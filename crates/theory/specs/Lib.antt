@@ -9,3 +9,4 @@ pub mod Heap
 pub mod Walks
 pub mod Weights
 pub mod Logarithm
+pub mod First
