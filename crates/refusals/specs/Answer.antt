@@ -1,5 +1,6 @@
--- What a call answers, in the terms of the rules: a refusal by its number, or the values that the rules name for the call. Every
--- public contract speaks through these two types; the definition `said` of a crate reads the code's own answers as such.
+-- What a call answers, in the terms of the rules: a refusal by its number, or the values that the rules name for the call. A contract
+-- of a call that can be refused, or whose answer is an enum, speaks through these two types: the definition `said` of its crate reads
+-- the code's own answers as such.
 -- Assumes nothing.
 use Prim.Native.Nat.{ℕ}
 use Rattle.refusals.specs.declared.Refusal.{Refusal}

@@ -51,10 +51,10 @@ low-test w = set-test (bitAnd w 1) (w % 2) (omega arith) (λ e. low w ∙ e) (λ
 pub second-test : (w : ℕ) → not (eqb (bitAnd w 2) 0) ≡ eqb (w / 2 % 2) 1
 second-test w = set-test (bitAnd w 2) (w / 2 % 2) (omega arith) (λ e. omega (arith, second w)) (λ e. omega (arith, second w))
 
--- the whole word is the generation times four where neither mark is set and the rest is the generation
-pub whole-test : (w g : ℕ) → bitAnd w 3 ≡ 0 → eqb (w / 4) g ≡ eqb w (g * 4)
-whole-test w g z = go (ℕ-discrete (w / 4) g)
+-- a word of the generation is the generation times four where neither mark is set
+pub whole-test : (w g : ℕ) → w / 4 ≡ g → eqb (bitAnd w 3) 0 ≡ eqb w (g * 4)
+whole-test w g e = go (ℕ-discrete (bitAnd w 3) 0)
   where
-    go : Dec (w / 4 ≡ g) → eqb (w / 4) g ≡ eqb w (g * 4)
-    go (yes e) = rw (eq-eqb (w / 4) g e, eq-eqb w (g * 4) (omega (arith, marks w)))
-    go (no n) = rw (ne-eqb (w / 4) g n, ne-eqb w (g * 4) (λ e. n (omega arith)))
+    go : Dec (bitAnd w 3 ≡ 0) → eqb (bitAnd w 3) 0 ≡ eqb w (g * 4)
+    go (yes z) = rw (eq-eqb (bitAnd w 3) 0 z, eq-eqb w (g * 4) (omega (arith, marks w)))
+    go (no n) = rw (ne-eqb (bitAnd w 3) 0 n, ne-eqb w (g * 4) (λ q. n (omega (arith, marks w))))

@@ -64,10 +64,10 @@ pub fn after_reset(word: u32) -> u32
 pub fn matches(word: u32, generation: u32) -> bool
     ensures { λ r. ⌜ Matches word generation r ⌝ }
 {
-    if word & (FIRED | INVALID) != 0 {
+    if word >> 2 != generation {
         return false;
     }
-    word >> 2 == generation
+    word & (FIRED | INVALID) == 0
 }
 
 // What a poll finds: fired goes before gone.

@@ -2,7 +2,7 @@
 -- Assumes nothing.
 use mathlib.Core.Path.{_≡_}
 use Prim.Native.Nat.{_+_, _-_}
-use native.Mathlib.Nat.{mod-le}
+use native.Mathlib.Nat.{mod-le, le-trans}
 use native.Mathlib.Omega.{arith}
 use borrow.Author.Tests.{eq-eqb, ne-eqb}
 use Rattle.refusals.proofs.Times.{timely-value}
@@ -17,7 +17,7 @@ returns : tie.Need-returns
 returns c = rw (eq-eqb _ _ (c .if1 .taken))
 
 sub-t12 : tie.Need-sub-t12
-sub-t12 c = omega (arith, time-is c, mod-le (c .before .before .before .before .before .args .reading - c .before .before .before .before .before .args .due) (c .before .before .before .before .before .args .period))
+sub-t12 c = le-trans (mod-le _ _) (omega (arith, time-is c))
 
 returns-2 : tie.Need-returns-2
 returns-2 c = rw (ne-eqb _ _ (c .before .before .before .before .if1 .left), ← (rw (c .before .time .given .1) at (c .before .before .before .sum .ensures)))

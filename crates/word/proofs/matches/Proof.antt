@@ -1,10 +1,11 @@
--- With a mark set the word is no multiple of four; with none set it is its generation times four.
+-- A word of another generation is not this one times four; a word of this one is, exactly where neither mark is set.
 -- Assumes nothing.
-use mathlib.Core.Path.{sym, _∙_}
-use native.Mathlib.Omega.{arith}
-use borrow.Author.Tests.{ne-eqb}
+use mathlib.Core.Path.{sym}
 use Prim.Native.Nat.{_*_}
-use Rattle.word.proofs.Bits.{marks, whole-test}
+use native.Mathlib.Omega.{arith}
+use borrow.Author.Needs.{needs}
+use borrow.Author.Tests.{ne-eqb}
+use Rattle.word.proofs.Bits.{whole-test}
 use Rattle.word.proofs.matches.Statement.{statement}
 use Rattle.word.proofs.matches.Tie as tie
 
@@ -12,7 +13,7 @@ returns : tie.Need-returns
 returns c =
     let w = c .before .args .word in
     let g = c .before .args .generation in
-    sym (ne-eqb w (g * 4) (λ e. c .if1 .taken (omega (arith, marks w))))
+    sym (ne-eqb w (g * 4) (λ e. c .if1 .taken (omega arith)))
 
 returns-2 : tie.Need-returns-2
 returns-2 c = whole-test (c .before .args .word) (c .before .args .generation) (c .if1 .left)
