@@ -1,3 +1,6 @@
+-- The entry is put behind the last one of a heap that is one longer, which is `addedOf`.
+-- Assumes nothing.
+use Rattle.heap.specs.Rules.{addedOf}
 use borrow.Author.Needs.{needs}
 use Rattle.heap.proofs.added.Statement.{statement}
 use Rattle.heap.proofs.added.Tie as tie
@@ -15,7 +18,8 @@ put-requires c κs = search needs
 
 -- src/lib.rt:319:1
 returns : tie.Need-returns
-returns c = ?
+unfolding addedOf
+returns c = c .put .ensures
 
 pub added-spec : {M : Type 1} → statement M
 added-spec = tie.close (tie.spec add-g put-requires returns)

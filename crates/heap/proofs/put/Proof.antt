@@ -1,3 +1,6 @@
+-- The two stores make the entry stand at the position and its slot say so, which is `putAt`.
+-- Assumes nothing.
+use Rattle.heap.specs.Rules.{putAt}
 use borrow.Author.Needs.{needs}
 use Rattle.heap.proofs.put.Statement.{statement}
 use Rattle.heap.proofs.put.Tie as tie
@@ -30,7 +33,8 @@ element-set-from-g c = search needs
 
 -- src/lib.rt:370:1
 returns : tie.Need-returns
-returns c = ?
+unfolding putAt
+returns c = search needs
 
 pub put-spec : {M : Type 1} → statement M
 put-spec =

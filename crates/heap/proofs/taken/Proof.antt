@@ -1,3 +1,7 @@
+-- By whether the free head equals the number of slots, and by what its slot is, the answer is `takenOf`.
+-- Assumes nothing.
+use borrow.Author.Tests.{eq-eqb, ne-eqb}
+use Rattle.heap.specs.Rules.{takenOf}
 use borrow.Author.Needs.{needs}
 use Rattle.heap.proofs.taken.Statement.{statement}
 use Rattle.heap.proofs.taken.Tie as tie
@@ -22,7 +26,8 @@ cast-t11 c = search needs
 
 -- src/lib.rt:305:9
 returns : tie.Need-returns
-returns c = ?
+unfolding takenOf
+returns c = simp (eq-eqb _ _ (c .if1 .taken))
 
 -- src/lib.rt:307:14
 mul-sl : tie.Need-mul-sl
@@ -42,11 +47,13 @@ enum-told c = search needs
 
 -- src/lib.rt:294:1
 returns-2 : tie.Need-returns-2
-returns-2 c = ?
+unfolding takenOf
+returns-2 c = simp (ne-eqb _ _ (c .before .before .before .before .if1 .left), c .before .st .given .1)
 
 -- src/lib.rt:294:1
 returns-3 : tie.Need-returns-3
-returns-3 c = ?
+unfolding takenOf
+returns-3 c = simp (ne-eqb _ _ (c .before .before .before .if1 .left), c .enum-told .given .1)
 
 pub taken-spec : {M : Type 1} → statement M
 taken-spec =

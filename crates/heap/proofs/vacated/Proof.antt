@@ -1,3 +1,6 @@
+-- The store and the new free head are those of `vacatedOf`.
+-- Assumes nothing.
+use Rattle.heap.specs.Rules.{vacatedOf}
 use borrow.Author.Needs.{needs}
 use Rattle.heap.proofs.vacated.Statement.{statement}
 use Rattle.heap.proofs.vacated.Tie as tie
@@ -18,7 +21,8 @@ element-set-from-g c = search needs
 
 -- src/lib.rt:330:1
 returns : tie.Need-returns
-returns c = ?
+unfolding vacatedOf
+returns c = search needs
 
 pub vacated-spec : {M : Type 1} → statement M
 vacated-spec = tie.close (tie.spec cast-s mul-t8 element-set-from-g returns)
