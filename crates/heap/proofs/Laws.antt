@@ -1,14 +1,14 @@
 -- Laws of the rules of push and remove, which the proofs of the code cite: how a walk steps and stops, which child it goes to, and
 -- that each entry's slot stays a slot of the slab.
 -- Assumes nothing.
-use mathlib.Core.Path.{_≡_, refl, sym, ap, subst}
+use mathlib.Core.Path.{_≡_, refl, sym, subst}
 use mathlib.Core.List.{List, [], _∷_}
 use mathlib.Core.Bool.{Bool, true, false}
 use mathlib.Core.Logic.{_≢_, by-cases}
 use Prim.Native.Nat.{ℕ, zero, suc, _+_, _-_, _*_, _<_, _≤_}
 use native.Mathlib.Decide.{ℕ-discrete}
 use native.Mathlib.Omega.{arith}
-use lib.Dec.{ltb, eqb}
+use lib.Dec.{ltb}
 use lib.ListN.{getD, set}
 use lib.Seq.{getD-set-other}
 use borrow.Author.Tests.{eq-eqb, ne-eqb, ltb-true}
@@ -17,7 +17,7 @@ use Rattle.heap.specs.Capacity.{cap}
 use Rattle.heap.specs.declared.Slot.{Slot}
 use Rattle.heap.specs.declared.Entry.{Entry}
 use Rattle.heap.specs.declared.Heap.{Heap}
-use Rattle.heap.specs.Rules.{noEntry, entryAt, putAt, swapAt, risesAt, moved, upFrom, pickChild, childOf, downFrom, takenOf, withLen, addedOf, vacatedOf}
+use Rattle.heap.specs.Rules.{noEntry, entryAt, slotAt, before, putAt, swapAt, risesAt, moved, upFrom, pickChild, childOf, downFrom, takenOf, withLen, addedOf, vacatedOf}
 use Rattle.heap.specs.Sound.{SlotsIn}
 
 -- what the stored element and the old one at a place have, the element at that place has after the store
@@ -96,6 +96,24 @@ slots-in-added h e l p r =
           (λ q. subst (λ (x : Entry). x .slot .0 < cap) (sym (getD-set-other (h .entries) (h .len) k e noEntry q)) (r .slots-in k (omega arith)));
     }
 
+-- the last entry of a heap that has one has its slot in the slab
+pub last-in : (h : Heap) → SlotsIn h → (p : ℕ) → p < h .len → slotAt h (h .len - 1) < cap
+last-in h r p b = r .slots-in (h .len - 1) (omega arith)
+
+-- so does the last entry's move into a hole of the heap that is one shorter
+pub slots-in-filled : (h : Heap) (p : ℕ) → p < h .len → SlotsIn h → SlotsIn (putAt (withLen h (h .len - 1)) p (entryAt h (h .len - 1)))
+slots-in-filled h p b r = slots-in-put _ _ _ (last-in h r p b) (slots-in-short h (h .len - 1) (omega arith) r)
+
+-- off the head an entry rises where it is smaller than its parent
+pub rises-is : (h : Heap) (i : ℕ) → 0 < i → risesAt h i ≡ before (entryAt h i) (entryAt h (parent i))
+unfolding risesAt
+rises-is h i p = let n : i ≢ 0 = omega arith in rw (ne-eqb i 0 n)
+
+-- at the head it does not rise
+pub top-stays : (h : Heap) (i : ℕ) → i ≡ 0 → risesAt h i ≡ false
+unfolding risesAt
+top-stays h i p = rw p
+
 -- an entry that rises is not at the head
 pub rises-pos : (h : Heap) (i : ℕ) → risesAt h i ≡ true → 0 < i
 unfolding risesAt
@@ -123,6 +141,13 @@ down-stop (suc k) h i n p = simp (eq-eqb _ _ p)
 pub down-step : (k k′ : ℕ) (h : Heap) (i n : ℕ) → k ≡ suc k′ → (childOf h i ≡ i → ⊥) → downFrom k h i n ≡ downFrom k′ (swapAt h i (childOf h i)) (childOf h i) (n + 1)
 unfolding downFrom
 down-step k k′ h i n q p = rw (q, ne-eqb _ _ p)
+
+-- the child that an entry goes to, by what the tests of it say
+pub child-picks : (h : Heap) (i : ℕ) {l r a b d : Bool} → ltb (2 * i + 1) (h .len) ≡ l → ltb (2 * i + 2) (h .len) ≡ r
+    → before (entryAt h (2 * i + 1)) (entryAt h i) ≡ a → before (entryAt h (2 * i + 2)) (entryAt h (2 * i + 1)) ≡ b
+    → before (entryAt h (2 * i + 2)) (entryAt h i) ≡ d → childOf h i ≡ pickChild l r a b d i
+unfolding childOf
+child-picks h i p q x y z = λ t. pickChild (p t) (q t) (x t) (y t) (z t) i
 
 below : (l r a b d : Bool) (i n : ℕ) → (l ≡ true → 2 * i + 1 < n) → (r ≡ true → 2 * i + 2 < n)
     → (pickChild l r a b d i ≡ i → ⊥) → (i < pickChild l r a b d i) × (pickChild l r a b d i < n)
