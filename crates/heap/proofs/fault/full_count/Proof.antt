@@ -1,52 +1,64 @@
+-- `fault::full_count` is right: after s slots the number is the count of the full ones below s.
+-- Assumes nothing.
+use mathlib.Core.Path.{_≡_, refl, _∙_, ap}
+use mathlib.Core.Logic.{⊎-elim}
+use Prim.Native.Nat.{_≤_, _-_}
+use native.Mathlib.Omega.{arith}
+use borrow.Author.Needs.{needs}
+use Rattle.theory.specs.Counting.{count}
+use Rattle.theory.proofs.Counting.{count-yes, count-no}
+use Rattle.heap.specs.Faults.{fullAt}
+use Rattle.heap.proofs.FaultLaws.{full-yes, full-no}
 use Rattle.heap.proofs.fault.full_count.Statement.{statement}
 use Rattle.heap.proofs.fault.full_count.Tie as tie
 use Rattle.heap.proofs.fault.full_count.Reads as reads
 use Rattle.heap.proofs.fault.full_count.Lts as lts
 
 abbrev Inv-loop : tie.InvT-loop
-Inv-loop h n₀ s₀ n s = ?
+Inv-loop h n₀ s₀ n s = (s ≤ h .made) × (n ≤ s) × (n ≡ count (fullAt h) s)
 
 abbrev μ-loop : tie.MeasureT-loop
-μ-loop h n₀ s₀ n s = ?
+μ-loop h n₀ s₀ n s = h .made - s
 
--- src/fault.rt:68:5
 loop-holds : tie.Need-loop-holds Inv-loop μ-loop
-loop-holds c = ?
+unfolding count
+loop-holds c = (search needs, search needs, refl)
 
--- src/fault.rt:69:17
 mul-x : tie.Need-mul-x Inv-loop μ-loop
-mul-x c = ?
+mul-x c = search needs
 
--- src/fault.rt:69:17
 element-copy-out-x : tie.Need-element-copy-out-x Inv-loop μ-loop
-element-copy-out-x c = ?
+element-copy-out-x c = search needs
 
--- src/fault.rt:72:13
 enum-told : tie.Need-enum-told Inv-loop μ-loop
-enum-told c = ?
+enum-told c = search needs
 
--- src/fault.rt:72:13
 add-n : tie.Need-add-n Inv-loop μ-loop
-add-n c = ?
+add-n c = search needs
 
 enum-told-2 : tie.Need-enum-told-2 Inv-loop μ-loop
-enum-told-2 c = ?
+enum-told-2 c = search needs
 
--- src/fault.rt:74:9
 add-s : tie.Need-add-s Inv-loop μ-loop
-add-s c = ?
+add-s c = search needs
 
--- src/fault.rt:68:5
 loop-less : tie.Need-loop-less Inv-loop μ-loop
-loop-less c = ?
+loop-less c = search needs
 
--- src/fault.rt:68:5
 loop-again : tie.Need-loop-again Inv-loop μ-loop
-loop-again c = ?
+loop-again c = 
+    let l = c .before .before .before .loop in
+    let h = c .before .before .before .before .args .t1 in
+    ⊎-elim
+    (λ w. (omega arith, omega arith, omega (arith, w .2, count-yes (fullAt h) (l .s) (full-yes h (l .s) (w .1 .given .1)))))
+    (λ w. (omega arith, omega arith, omega (arith, w .2, count-no (fullAt h) (l .s) (full-no h (l .s) (w .1 .given .1)))))
+    (c .match .came)
 
--- src/fault.rt:62:1
 returns : tie.Need-returns Inv-loop μ-loop
-returns c = ?
+returns c = 
+    let h = c .before .before .args .t1 in
+    let e : c .before .loop .s ≡ h .made = omega arith in
+    c .before .loop .inv .2 ∙ ap (count (fullAt h)) e
 
 pub full-count-spec : {M : Type 1} → statement M
 full-count-spec =

@@ -1,3 +1,12 @@
+-- `fault::order_fault` is right: at each turn the scan of the positions to go finds what the whole scan finds.
+-- Assumes nothing.
+use mathlib.Core.Path.{_≡_, refl, sym, _∙_}
+use Prim.Native.Nat.{_≤_, _-_}
+use native.Mathlib.Omega.{arith}
+use borrow.Author.Needs.{needs}
+use Rattle.heap.specs.declared.fault.Fault.the-variants.{Order}
+use Rattle.heap.specs.Faults.{orderOk, orderFault}
+use Rattle.heap.proofs.FaultLaws.{scan, scan-goes, scan-here, scan-done, order-not}
 use Rattle.heap.proofs.fault.order_fault.Statement.{statement}
 use Rattle.heap.proofs.fault.order_fault.Tie as tie
 use Rattle.heap.proofs.fault.order_fault.Reads as reads
@@ -5,58 +14,55 @@ use Rattle.heap.proofs.fault.order_fault.Lts as lts
 use Rattle.heap.proofs.before.Reads as before-reads
 
 abbrev Inv-loop : tie.InvT-loop
-Inv-loop h i₀ i = ?
+Inv-loop h i₀ i = (1 ≤ i) × (scan Order (orderOk h) (h .len) i ≡ orderFault h)
 
 abbrev μ-loop : tie.MeasureT-loop
-μ-loop h i₀ i = ?
+μ-loop h i₀ i = h .len - i
 
--- src/fault.rt:110:5
 loop-holds : tie.Need-loop-holds Inv-loop μ-loop
-loop-holds c = ?
+unfolding scan orderFault
+loop-holds c = (search needs, refl)
 
--- src/fault.rt:111:17
 mul-e : tie.Need-mul-e Inv-loop μ-loop
-mul-e c = ?
+mul-e c = search needs
 
--- src/fault.rt:111:17
 element-copy-out-e : tie.Need-element-copy-out-e Inv-loop μ-loop
-element-copy-out-e c = ?
+element-copy-out-e c = search needs
 
--- src/fault.rt:112:28
 sub-p : tie.Need-sub-p Inv-loop μ-loop
-sub-p c = ?
+sub-p c = search needs
 
--- src/fault.rt:112:17
 mul-p : tie.Need-mul-p Inv-loop μ-loop
-mul-p c = ?
+mul-p c = search needs
 
--- src/fault.rt:112:17
 element-copy-out-p : tie.Need-element-copy-out-p Inv-loop μ-loop
-element-copy-out-p c = ?
+element-copy-out-p c = search needs
 
--- src/fault.rt:113:12
 before-requires : tie.Need-before-requires Inv-loop μ-loop
-before-requires c κs = ?
+before-requires c κs = search needs
 
--- src/fault.rt:114:13
 returns : tie.Need-returns Inv-loop μ-loop
-returns c = ?
+returns c = 
+    let h = c .before .before .before .before .before .before .args .t1 in
+    let l = c .before .before .before .before .before .loop in
+    sym (scan-here Order (orderOk h) (omega arith) (order-not h (l .i) (sym (c .before .before2 .ensures) ∙ c .if1 .taken))) ∙ l .inv .1
 
--- src/fault.rt:116:9
 add-i : tie.Need-add-i Inv-loop μ-loop
-add-i c = ?
+add-i c = search needs
 
--- src/fault.rt:110:5
 loop-less : tie.Need-loop-less Inv-loop μ-loop
-loop-less c = ?
+loop-less c = search needs
 
--- src/fault.rt:110:5
 loop-again : tie.Need-loop-again Inv-loop μ-loop
-loop-again c = ?
+loop-again c = 
+    let h = c .before .before .before .before .before .before .args .t1 in
+    let l = c .before .before .before .before .before .loop in (
+      omega arith,
+      scan-goes Order (orderOk h) (omega arith) (order-not h (l .i) (sym (c .before .before2 .ensures) ∙ c .if1 .left)) ∙ l .inv .1,
+    )
 
--- src/fault.rt:105:1
 returns-2 : tie.Need-returns-2 Inv-loop μ-loop
-returns-2 c = ?
+returns-2 c = sym (scan-done Order (orderOk (c .before .before .args .t1)) (c .loop-test .left)) ∙ c .before .loop .inv .1
 
 pub order-fault-spec : {M : Type 1} → statement M
 order-fault-spec =

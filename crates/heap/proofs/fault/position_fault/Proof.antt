@@ -1,77 +1,87 @@
+-- `fault::position_fault` is right: at each turn the scan of the positions to go finds what the whole scan finds.
+-- Assumes nothing.
+use mathlib.Core.Path.{_≡_, refl, sym, _∙_}
+use Prim.Native.Nat.{_≤_, _-_}
+use native.Mathlib.Nat.{sub-zero}
+use native.Mathlib.Omega.{arith}
+use borrow.Author.Needs.{needs}
+use Rattle.heap.specs.declared.fault.Fault.the-variants.{Position}
+use Rattle.heap.specs.Faults.{positionOk, positionFault}
+use Rattle.heap.proofs.FaultLaws.{scan, scan-goes, scan-here, scan-done, position-past, position-empty, position-other, position-yes}
 use Rattle.heap.proofs.fault.position_fault.Statement.{statement}
 use Rattle.heap.proofs.fault.position_fault.Tie as tie
 use Rattle.heap.proofs.fault.position_fault.Reads as reads
 use Rattle.heap.proofs.fault.position_fault.Lts as lts
 
 abbrev Inv-loop : tie.InvT-loop
-Inv-loop h i₀ i = ?
+Inv-loop h i₀ i = (i ≤ h .len) × (scan Position (positionOk h) (h .len) i ≡ positionFault h)
 
 abbrev μ-loop : tie.MeasureT-loop
-μ-loop h i₀ i = ?
+μ-loop h i₀ i = h .len - i
 
--- src/fault.rt:85:5
 loop-holds : tie.Need-loop-holds Inv-loop μ-loop
-loop-holds c = ?
+unfolding scan positionFault
+loop-holds c = (search needs, simp sub-zero)
 
--- src/fault.rt:86:17
 mul-e : tie.Need-mul-e Inv-loop μ-loop
-mul-e c = ?
+mul-e c = search needs
 
--- src/fault.rt:86:17
 element-copy-out-e : tie.Need-element-copy-out-e Inv-loop μ-loop
-element-copy-out-e c = ?
+element-copy-out-e c = search needs
 
--- src/fault.rt:87:17
 cast-s : tie.Need-cast-s Inv-loop μ-loop
-cast-s c = ?
+cast-s c = search needs
 
--- src/fault.rt:89:13
 returns : tie.Need-returns Inv-loop μ-loop
-returns c = ?
+returns c = 
+    let h = c .before .before .before .before .before .args .t1 in
+    let l = c .before .before .before .before .loop in
+    sym (scan-here Position (positionOk h) (omega arith) (position-past h (l .i) (c .if1 .taken))) ∙ l .inv .1
 
--- src/fault.rt:91:17
 mul-x : tie.Need-mul-x Inv-loop μ-loop
-mul-x c = ?
+mul-x c = search needs
 
--- src/fault.rt:91:17
 element-copy-out-x : tie.Need-element-copy-out-x Inv-loop μ-loop
-element-copy-out-x c = ?
+element-copy-out-x c = search needs
 
--- src/fault.rt:93:29
 enum-known-st : tie.Need-enum-known-st Inv-loop μ-loop
-enum-known-st c = ?
+enum-known-st c = search needs
 
--- src/fault.rt:94:13
 enum-told : tie.Need-enum-told Inv-loop μ-loop
-enum-told c = ?
+enum-told c = search needs
 
--- src/fault.rt:94:13
 returns-2 : tie.Need-returns-2 Inv-loop μ-loop
-returns-2 c = ?
+returns-2 c = 
+    let h = c .before .before .before .before .before .before .before .before .args .t1 in
+    let l = c .before .before .before .before .before .before .before .loop in
+    sym (scan-here Position (positionOk h) (omega arith) (position-empty h (l .i) (c .before .before .before .if1 .left) (c .enum-told .given .1))) ∙ l .inv .1
 
--- src/fault.rt:96:12
 cast-if2 : tie.Need-cast-if2 Inv-loop μ-loop
-cast-if2 c = ?
+cast-if2 c = search needs
 
--- src/fault.rt:97:13
 returns-3 : tie.Need-returns-3 Inv-loop μ-loop
-returns-3 c = ?
+returns-3 c = 
+    let h = c .before .before .before .before .before .before .before .before .before .before .before .args .t1 in
+    let l = c .before .before .before .before .before .before .before .before .before .before .loop in
+    sym (scan-here Position (positionOk h) (omega arith) (position-other h (l .i) (c .before .before .before .before .before .before .if1 .left) (c .before .before .before .st .given .1) (c .if2 .taken)))
+    ∙ l .inv .1
 
--- src/fault.rt:99:9
 add-i : tie.Need-add-i Inv-loop μ-loop
-add-i c = ?
+add-i c = search needs
 
--- src/fault.rt:85:5
 loop-less : tie.Need-loop-less Inv-loop μ-loop
-loop-less c = ?
+loop-less c = search needs
 
--- src/fault.rt:85:5
 loop-again : tie.Need-loop-again Inv-loop μ-loop
-loop-again c = ?
+loop-again c = 
+    let h = c .before .before .before .before .before .before .before .before .before .before .before .args .t1 in
+    let l = c .before .before .before .before .before .before .before .before .before .before .loop in (
+      omega arith,
+      scan-goes Position (positionOk h) (omega arith) (position-yes h (l .i) (c .before .before .before .before .before .before .if1 .left) (c .before .before .before .st .given .1) (c .if2 .left)) ∙ l .inv .1,
+    )
 
--- src/fault.rt:80:1
 returns-4 : tie.Need-returns-4 Inv-loop μ-loop
-returns-4 c = ?
+returns-4 c = sym (scan-done Position (positionOk (c .before .before .args .t1)) (c .loop-test .left)) ∙ c .before .loop .inv .1
 
 pub position-fault-spec : {M : Type 1} → statement M
 position-fault-spec =

@@ -1,0 +1,170 @@
+-- The heap test's rules, turn by turn: what one turn of each scan's loop makes of them.
+-- Assumes nothing.
+use mathlib.Core.Path.{_≡_, refl, sym, ap, _∙_}
+use mathlib.Core.Logic.{_≢_, ⊎-elim}
+use mathlib.Core.Bool.{Bool, true, false, not, cond, _&&_, true≢false}
+use mathlib.Core.List.{[], _∷_}
+use Prim.Native.Nat.{ℕ, zero, suc, _+_, _-_, _<_, _≤_}
+use native.Mathlib.Decide.{ℕ-discrete}
+use native.Mathlib.Omega.{arith}
+use denote.Enum.Declared.{tagOf}
+use types.Run.{OneOf}
+use borrow.Author.Tests.{lt-ltb, le-ltb, eq-eqb, ne-eqb}
+use Rattle.theory.specs.Counting.{tally, count}
+use Rattle.theory.specs.Chain.{unless, faultAt}
+use Rattle.theory.specs.First.{firstBad}
+use Rattle.theory.specs.Order.{parent}
+use Rattle.theory.proofs.First.{first-goes, first-here, first-done}
+use Rattle.theory.proofs.ChainFault.{fault-to, fault-short}
+use Rattle.heap.specs.declared.Pos.{Pos}
+use Rattle.heap.specs.declared.Slot.{Slot}
+use Rattle.heap.specs.declared.SlotState.the-variants.{Full, Empty}
+use Rattle.heap.specs.declared.Heap.{Heap}
+use Rattle.heap.specs.declared.fault.Fault.{Fault}
+use Rattle.heap.specs.declared.fault.Fault.the-variants.{No, Count, Position, Order, FreeChain}
+use Rattle.heap.specs.Rules.{entryAt, stateAt, slotAt, before}
+use Rattle.heap.specs.Faults.{isFull, names, fullAt, emptyAt, nextAt, positionOk, orderOk, faultBy, orElse, chainFault, isNo}
+use Rattle.heap.specs.Sound.{Counted}
+use Rattle.heap.proofs.fault.Fault.{the-type}
+
+-- a fault that the code finds to be of a kind after the first is one
+pub is-fault : (f : Fault) → OneOf (1 ∷ 2 ∷ 3 ∷ 4 ∷ []) (tagOf the-type f) → isNo f ≡ false
+is-fault No o = absurd (⊎-elim (λ e. omega arith) (λ o. ⊎-elim (λ e. omega arith) (λ o. ⊎-elim (λ e. omega arith) (λ e. omega arith) o) o) o)
+is-fault Count o = refl
+is-fault (Position i) o = refl
+is-fault (Order i) o = refl
+is-fault (FreeChain k) o = refl
+
+-- where there is a fault it is the first of the two
+pub stops : (f : Fault) {k : Fault} (g : Fault) → f ≡ k → isNo f ≡ false → f ≡ orElse k g
+stops f {k} g e b = go f b ∙ ap (λ (x : Fault). orElse x g) e
+  where
+    go : (f : Fault) → isNo f ≡ false → f ≡ orElse f g
+    go No b = absurd (true≢false b)
+    go Count b = refl
+    go (Position i) b = refl
+    go (Order i) b = refl
+    go (FreeChain k) b = refl
+
+-- where there is none the second is
+pub goes-on : {f k : Fault} (g : Fault) → f ≡ k → f ≡ No → g ≡ orElse k g
+goes-on g e n = ap (λ (x : Fault). orElse x g) (sym n ∙ e)
+
+-- the fault of a scan that has come to i and has the numbers below the end to go
+unfoldable pub scan : (ℕ → Fault) → (ℕ → Bool) → ℕ → ℕ → Fault
+scan kind ok end i = faultBy kind (firstBad ok (end - i) i)
+
+module _ (kind : ℕ → Fault) (ok : ℕ → Bool) where
+  -- a number that passes
+  pub scan-goes : {end i : ℕ} → i < end → ok i ≡ true → scan kind ok end (i + 1) ≡ scan kind ok end i
+  unfolding scan
+  scan-goes {end} {i} l e =
+      let m : end - i - 1 ≡ end - (i + 1) = omega arith in
+      ap (faultBy kind) (sym (first-goes ok (end - i) i (omega arith) e ∙ ap (λ (n : ℕ). firstBad ok n (i + 1)) m))
+
+  -- a number that fails
+  pub scan-here : {end i : ℕ} → i < end → ok i ≡ false → scan kind ok end i ≡ kind i
+  unfolding scan
+  scan-here {end} {i} l e = ap (faultBy kind) (first-here ok (end - i) i (omega arith) e)
+
+  -- no number is left
+  pub scan-done : {end i : ℕ} → end ≤ i → scan kind ok end i ≡ No
+  unfolding scan
+  scan-done {end} {i} l = ap (faultBy kind) (first-done ok (end - i) i (omega arith))
+
+module _ (h : Heap) where
+  -- a slot that is full, and one that is empty
+  pub full-yes : (s : ℕ) {p : Pos} → stateAt h s ≡ Full p → fullAt h s ≡ true
+  unfolding fullAt
+  full-yes s e = ap isFull e
+
+  pub full-no : (s : ℕ) {n : Slot} → stateAt h s ≡ Empty n → fullAt h s ≡ false
+  unfolding fullAt
+  full-no s e = ap isFull e
+
+  -- a slot that was made is empty where it is not full
+  pub empty-below : (s : ℕ) → s < h .made → emptyAt h s ≡ not (fullAt h s)
+  unfolding emptyAt fullAt
+  empty-below s l = rw (lt-ltb s (h .made) l)
+
+  -- a slot that was not made is not empty
+  pub empty-past : (s : ℕ) → h .made ≤ s → emptyAt h s ≡ false
+  unfolding emptyAt
+  empty-past s l = rw (le-ltb s (h .made) l)
+
+  -- each slot that was made is empty or full
+  pub empty-full : (n : ℕ) → n ≤ h .made → count (emptyAt h) n + count (fullAt h) n ≡ n
+  unfolding count
+  empty-full zero l = refl
+  empty-full (suc n) l = rw (empty-below n (omega arith)) (go (fullAt h n) (empty-full n (omega arith)))
+    where
+      go : (b : Bool) → count (emptyAt h) n + count (fullAt h) n ≡ n
+          → tally (not b) (count (emptyAt h) n) + tally b (count (fullAt h) n) ≡ suc n
+      go true e = omega arith
+      go false e = omega arith
+
+  -- an entry whose slot was not made, is empty, or names another position
+  pub position-past : (i : ℕ) → h .made ≤ slotAt h i → positionOk h i ≡ false
+  unfolding positionOk
+  position-past i l = rw (le-ltb (slotAt h i) (h .made) l)
+
+  pub position-empty : (i : ℕ) {n : Slot} → slotAt h i < h .made → stateAt h (slotAt h i) ≡ Empty n → positionOk h i ≡ false
+  unfolding positionOk
+  position-empty i l e = rw (lt-ltb (slotAt h i) (h .made) l) (ap (λ x. names x i) e)
+
+  pub position-other : (i : ℕ) {p : Pos} → slotAt h i < h .made → stateAt h (slotAt h i) ≡ Full p → p .0 ≢ i → positionOk h i ≡ false
+  unfolding positionOk
+  position-other i {p} l e d = rw (lt-ltb (slotAt h i) (h .made) l) (ap (λ x. names x i) e ∙ ne-eqb (p .0) i d)
+
+  -- an entry whose slot is full and names its position
+  pub position-yes : (i : ℕ) {p : Pos} → slotAt h i < h .made → stateAt h (slotAt h i) ≡ Full p → p .0 ≡ i → positionOk h i ≡ true
+  unfolding positionOk
+  position-yes i {p} l e d = rw (lt-ltb (slotAt h i) (h .made) l) (ap (λ x. names x i) e ∙ eq-eqb (p .0) i d)
+
+  -- an entry is in order where it does not go before its parent
+  pub order-not : (i : ℕ) {b : Bool} → before (entryAt h i) (entryAt h (parent i)) ≡ b → orderOk h i ≡ not b
+  unfolding orderOk
+  order-not i e = ap not e
+
+-- the fault of the free chain's walk that has met k slots, stands at a slot and has n to go
+unfoldable pub chainFrom : Heap → ℕ → ℕ → ℕ → Fault
+chainFrom h n k at = faultBy FreeChain (faultAt (emptyAt h) (nextAt h) n k (unless (h .made) at))
+
+module _ (h : Heap) where
+  -- the walk begins with as many slots to go as there are slots less entries
+  pub chain-starts : Counted h → chainFrom h (h .made - h .len) 0 (h .free .0) ≡ chainFault h
+  unfolding chainFrom chainFault
+  chain-starts k =
+      let e : h .made - h .len ≡ count (emptyAt h) (h .made) = omega (arith, empty-full h (h .made) (omega arith), k .counted) in
+      rw e
+
+  -- a slot that was not made
+  pub chain-past : {n k at : ℕ} → 0 < n → h .made ≤ at → chainFrom h n k at ≡ FreeChain k
+  unfolding chainFrom
+  chain-past {n} {k} {at} l g = go (ℕ-discrete at (h .made))
+    where
+      go : Dec (at ≡ h .made) → faultBy FreeChain (faultAt (emptyAt h) (nextAt h) n k (unless (h .made) at)) ≡ FreeChain k
+      go (yes e) = rw (eq-eqb at (h .made) e, fault-short (emptyAt h) (nextAt h) n k l)
+      go (no e) = rw (ne-eqb at (h .made) e, fault-to (emptyAt h) (nextAt h) n k at l, empty-past h at g)
+
+  -- a slot that is full
+  pub chain-full : {n k at : ℕ} {p : Pos} → 0 < n → at < h .made → stateAt h at ≡ Full p → chainFrom h n k at ≡ FreeChain k
+  unfolding chainFrom
+  chain-full {n} {k} {at} l g e =
+      rw (ne-eqb at (h .made) (λ q. omega arith), fault-to (emptyAt h) (nextAt h) n k at l, empty-below h at g, full-yes h at e)
+
+  -- a slot that is empty
+  pub chain-goes : {n : ℕ} (k : ℕ) {at : ℕ} {s : Slot} → 0 < n → at < h .made → stateAt h at ≡ Empty s
+      → chainFrom h (n - 1) (k + 1) (s .0) ≡ chainFrom h n k at
+  unfolding chainFrom nextAt
+  chain-goes {n} k {at} l g e =
+      rw (ne-eqb at (h .made) (λ q. omega arith), fault-to (emptyAt h) (nextAt h) n k at l, empty-below h at g, full-no h at e, e)
+
+  -- no slot is to come: the chain has ended, or goes on too long
+  pub chain-ends : {n : ℕ} (k : ℕ) {at : ℕ} → n ≡ 0 → at ≡ h .made → chainFrom h n k at ≡ No
+  unfolding chainFrom faultAt
+  chain-ends k {at} z e = rw (z, eq-eqb at (h .made) e)
+
+  pub chain-long : {n k at : ℕ} → n ≡ 0 → at ≢ h .made → chainFrom h n k at ≡ FreeChain k
+  unfolding chainFrom faultAt
+  chain-long {at = at} z d = rw (z, ne-eqb at (h .made) d)

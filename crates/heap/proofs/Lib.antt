@@ -1,0 +1,4 @@
+pub mod FaultLaws
+pub mod Test
+pub mod FreshSound
+pub mod NoSecond
