@@ -1,21 +1,19 @@
--- The heap test's rules, turn by turn: what one turn of each scan's loop makes of them.
+-- The heap test's rules, turn by turn: the first fault of several, and what one turn of a scan over positions or slots makes of
+-- its rule.
 -- Assumes nothing.
 use mathlib.Core.Path.{_≡_, refl, sym, ap, _∙_}
 use mathlib.Core.Logic.{_≢_, ⊎-elim}
-use mathlib.Core.Bool.{Bool, true, false, not, cond, _&&_, true≢false}
+use mathlib.Core.Bool.{Bool, true, false, not, true≢false}
 use mathlib.Core.List.{[], _∷_}
 use Prim.Native.Nat.{ℕ, zero, suc, _+_, _-_, _<_, _≤_}
-use native.Mathlib.Decide.{ℕ-discrete}
 use native.Mathlib.Omega.{arith}
 use denote.Enum.Declared.{tagOf}
 use types.Run.{OneOf}
 use borrow.Author.Tests.{lt-ltb, le-ltb, eq-eqb, ne-eqb}
 use Rattle.theory.specs.Counting.{tally, count}
-use Rattle.theory.specs.Chain.{unless, faultAt}
 use Rattle.theory.specs.First.{firstBad}
 use Rattle.theory.specs.Order.{parent}
 use Rattle.theory.proofs.First.{first-goes, first-here, first-done}
-use Rattle.theory.proofs.ChainFault.{fault-to, fault-short}
 use Rattle.heap.specs.declared.Pos.{Pos}
 use Rattle.heap.specs.declared.Slot.{Slot}
 use Rattle.heap.specs.declared.SlotState.the-variants.{Full, Empty}
@@ -23,8 +21,7 @@ use Rattle.heap.specs.declared.Heap.{Heap}
 use Rattle.heap.specs.declared.fault.Fault.{Fault}
 use Rattle.heap.specs.declared.fault.Fault.the-variants.{No, Count, Position, Order, FreeChain}
 use Rattle.heap.specs.Rules.{entryAt, stateAt, slotAt, before}
-use Rattle.heap.specs.Faults.{isFull, names, fullAt, emptyAt, nextAt, positionOk, orderOk, faultBy, orElse, chainFault, isNo}
-use Rattle.heap.specs.Sound.{Counted}
+use Rattle.heap.specs.Faults.{isFull, names, fullAt, emptyAt, positionOk, orderOk, faultBy, orElse, isNo}
 use Rattle.heap.proofs.fault.Fault.{the-type}
 
 -- a fault that the code finds to be of a kind after the first is one
@@ -125,46 +122,3 @@ module _ (h : Heap) where
   pub order-not : (i : ℕ) {b : Bool} → before (entryAt h i) (entryAt h (parent i)) ≡ b → orderOk h i ≡ not b
   unfolding orderOk
   order-not i e = ap not e
-
--- the fault of the free chain's walk that has met k slots, stands at a slot and has n to go
-unfoldable pub chainFrom : Heap → ℕ → ℕ → ℕ → Fault
-chainFrom h n k at = faultBy FreeChain (faultAt (emptyAt h) (nextAt h) n k (unless (h .made) at))
-
-module _ (h : Heap) where
-  -- the walk begins with as many slots to go as there are slots less entries
-  pub chain-starts : Counted h → chainFrom h (h .made - h .len) 0 (h .free .0) ≡ chainFault h
-  unfolding chainFrom chainFault
-  chain-starts k =
-      let e : h .made - h .len ≡ count (emptyAt h) (h .made) = omega (arith, empty-full h (h .made) (omega arith), k .counted) in
-      rw e
-
-  -- a slot that was not made
-  pub chain-past : {n k at : ℕ} → 0 < n → h .made ≤ at → chainFrom h n k at ≡ FreeChain k
-  unfolding chainFrom
-  chain-past {n} {k} {at} l g = go (ℕ-discrete at (h .made))
-    where
-      go : Dec (at ≡ h .made) → faultBy FreeChain (faultAt (emptyAt h) (nextAt h) n k (unless (h .made) at)) ≡ FreeChain k
-      go (yes e) = rw (eq-eqb at (h .made) e, fault-short (emptyAt h) (nextAt h) n k l)
-      go (no e) = rw (ne-eqb at (h .made) e, fault-to (emptyAt h) (nextAt h) n k at l, empty-past h at g)
-
-  -- a slot that is full
-  pub chain-full : {n k at : ℕ} {p : Pos} → 0 < n → at < h .made → stateAt h at ≡ Full p → chainFrom h n k at ≡ FreeChain k
-  unfolding chainFrom
-  chain-full {n} {k} {at} l g e =
-      rw (ne-eqb at (h .made) (λ q. omega arith), fault-to (emptyAt h) (nextAt h) n k at l, empty-below h at g, full-yes h at e)
-
-  -- a slot that is empty
-  pub chain-goes : {n : ℕ} (k : ℕ) {at : ℕ} {s : Slot} → 0 < n → at < h .made → stateAt h at ≡ Empty s
-      → chainFrom h (n - 1) (k + 1) (s .0) ≡ chainFrom h n k at
-  unfolding chainFrom nextAt
-  chain-goes {n} k {at} l g e =
-      rw (ne-eqb at (h .made) (λ q. omega arith), fault-to (emptyAt h) (nextAt h) n k at l, empty-below h at g, full-no h at e, e)
-
-  -- no slot is to come: the chain has ended, or goes on too long
-  pub chain-ends : {n : ℕ} (k : ℕ) {at : ℕ} → n ≡ 0 → at ≡ h .made → chainFrom h n k at ≡ No
-  unfolding chainFrom faultAt
-  chain-ends k {at} z e = rw (z, eq-eqb at (h .made) e)
-
-  pub chain-long : {n k at : ℕ} → n ≡ 0 → at ≢ h .made → chainFrom h n k at ≡ FreeChain k
-  unfolding chainFrom faultAt
-  chain-long {at = at} z d = rw (z, ne-eqb at (h .made) d)

@@ -1,6 +1,6 @@
 -- The empty heap is sound, so what the calls require can be met.
 -- Assumes nothing.
-use mathlib.Core.Path.{_≡_, refl}
+use mathlib.Core.Path.{refl}
 use native.Mathlib.Omega.{arith}
 use lib.ListN.{length-replicate}
 use Rattle.theory.specs.Counting.{count}

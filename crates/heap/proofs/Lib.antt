@@ -1,4 +1,5 @@
 pub mod FaultLaws
+pub mod ChainLaws
 pub mod Test
 pub mod FreshSound
 pub mod NoSecond

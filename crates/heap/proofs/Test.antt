@@ -1,7 +1,7 @@
 -- The heap test says yes exactly of sound heaps.
 -- Assumes nothing.
-use mathlib.Core.Path.{_≡_, refl, sym, ap, ap₂, subst, _∙_}
-use mathlib.Core.Bool.{Bool, true, false, not, cond, _&&_, false≢true}
+use mathlib.Core.Path.{_≡_, refl, sym, ap, subst, _∙_}
+use mathlib.Core.Bool.{Bool, true, false, cond, _&&_, false≢true}
 use mathlib.Core.Option.{Option, none, some}
 use Prim.Native.Nat.{ℕ, _+_, _-_, _<_, _≤_}
 use native.Mathlib.Omega.{arith}
@@ -11,7 +11,7 @@ use borrow.Author.Tests.{ltb-true, eqb-true, not-true}
 use Rattle.theory.specs.Tests.{Ref, holds, fails}
 use Rattle.theory.specs.Order.{parent}
 use Rattle.theory.specs.Counting.{count}
-use Rattle.theory.specs.Chain.{unless, walkb, chainOkb, noFault, faultAt}
+use Rattle.theory.specs.Chain.{unless, chainOkb, noFault, faultAt}
 use Rattle.theory.specs.First.{firstBad}
 use Rattle.theory.proofs.Tests.{ref-by, ref-le, ref-eq, ref-and, ref-map, ref-true, true-ref, true-false, none-some, and-left, and-right}
 use Rattle.theory.proofs.First.{none-all, all-none}

@@ -6,15 +6,6 @@ use Rattle.heap.specs.Faults.{isNo, consistentOf}
 use Rattle.heap.proofs.FaultLaws.{is-fault}
 use Rattle.heap.proofs.consistent.Statement.{statement}
 use Rattle.heap.proofs.consistent.Tie as tie
-use Rattle.heap.proofs.consistent.Reads as reads
-use Rattle.heap.proofs.consistent.Lts as lts
-use Rattle.heap.proofs.fault.first_fault.Reads as first-fault-reads
-
-first-fault-requires : tie.Need-first-fault-requires
-first-fault-requires c κs = search needs
-
-enum-told : tie.Need-enum-told
-enum-told c = search needs
 
 returns : tie.Need-returns
 unfolding consistentOf
@@ -25,4 +16,4 @@ unfolding consistentOf
 returns-2 c = sym (is-fault (c .before .first-fault .result) (c .match .keys2)) ∙ ap isNo (c .before .first-fault .ensures)
 
 pub consistent-spec : {M : Type 1} → statement M
-consistent-spec = tie.close (tie.spec first-fault-requires enum-told returns returns-2)
+consistent-spec = tie.close (tie.spec (λ c κs. search needs) (λ c. search needs) returns returns-2)

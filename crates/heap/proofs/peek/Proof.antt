@@ -8,13 +8,6 @@ use Rattle.heap.specs.Capacity.{cap}
 use Rattle.heap.proofs.Test.{consistent-sound}
 use Rattle.heap.proofs.peek.Statement.{statement}
 use Rattle.heap.proofs.peek.Tie as tie
-use Rattle.heap.proofs.peek.Reads as reads
-use Rattle.heap.proofs.peek.Lts as lts
-use Rattle.heap.proofs.consistent.Reads as consistent-reads
-use Rattle.heap.proofs.peek_sound.Reads as peek-sound-reads
-
-consistent-requires : tie.Need-consistent-requires
-consistent-requires c κs = search needs
 
 peek-sound-requires : tie.Need-peek-sound-requires
 peek-sound-requires c κs =
@@ -30,4 +23,4 @@ returns-2 : tie.Need-returns-2
 returns-2 c = rw (sym (c .before .consistent .ensures) ∙ c .if1 .left)
 
 pub peek-spec : {M : Type 1} → statement M
-peek-spec = tie.close (tie.spec consistent-requires peek-sound-requires returns returns-2)
+peek-spec = tie.close (tie.spec (λ c κs. search needs) peek-sound-requires returns returns-2)

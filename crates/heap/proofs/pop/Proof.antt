@@ -9,13 +9,6 @@ use Rattle.heap.specs.Calls.{guarded}
 use Rattle.heap.proofs.Test.{consistent-sound}
 use Rattle.heap.proofs.pop.Statement.{statement}
 use Rattle.heap.proofs.pop.Tie as tie
-use Rattle.heap.proofs.pop.Reads as reads
-use Rattle.heap.proofs.pop.Lts as lts
-use Rattle.heap.proofs.consistent.Reads as consistent-reads
-use Rattle.heap.proofs.pop_sound.Reads as pop-sound-reads
-
-consistent-requires : tie.Need-consistent-requires
-consistent-requires c κs = search needs
 
 pop-sound-requires : tie.Need-pop-sound-requires
 pop-sound-requires c κs =
@@ -33,4 +26,4 @@ unfolding guarded
 returns-2 c = rw (sym (c .before .consistent .ensures) ∙ c .if1 .left)
 
 pub pop-spec : {M : Type 1} → statement M
-pop-spec = tie.close (tie.spec consistent-requires pop-sound-requires returns returns-2)
+pop-spec = tie.close (tie.spec (λ c κs. search needs) pop-sound-requires returns returns-2)

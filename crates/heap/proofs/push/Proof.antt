@@ -9,13 +9,6 @@ use Rattle.heap.specs.Calls.{guarded}
 use Rattle.heap.proofs.Test.{consistent-sound}
 use Rattle.heap.proofs.push.Statement.{statement}
 use Rattle.heap.proofs.push.Tie as tie
-use Rattle.heap.proofs.push.Reads as reads
-use Rattle.heap.proofs.push.Lts as lts
-use Rattle.heap.proofs.consistent.Reads as consistent-reads
-use Rattle.heap.proofs.push_sound.Reads as push-sound-reads
-
-consistent-requires : tie.Need-consistent-requires
-consistent-requires c κs = search needs
 
 push-sound-requires : tie.Need-push-sound-requires
 push-sound-requires c κs =
@@ -33,4 +26,4 @@ unfolding guarded
 returns-2 c = rw (sym (c .before .consistent .ensures) ∙ c .if1 .left)
 
 pub push-spec : {M : Type 1} → statement M
-push-spec = tie.close (tie.spec consistent-requires push-sound-requires returns returns-2)
+push-spec = tie.close (tie.spec (λ c κs. search needs) push-sound-requires returns returns-2)

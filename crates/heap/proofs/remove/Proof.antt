@@ -9,13 +9,6 @@ use Rattle.heap.specs.Calls.{guarded}
 use Rattle.heap.proofs.Test.{consistent-sound}
 use Rattle.heap.proofs.remove.Statement.{statement}
 use Rattle.heap.proofs.remove.Tie as tie
-use Rattle.heap.proofs.remove.Reads as reads
-use Rattle.heap.proofs.remove.Lts as lts
-use Rattle.heap.proofs.consistent.Reads as consistent-reads
-use Rattle.heap.proofs.remove_sound.Reads as remove-sound-reads
-
-consistent-requires : tie.Need-consistent-requires
-consistent-requires c κs = search needs
 
 remove-sound-requires : tie.Need-remove-sound-requires
 remove-sound-requires c κs =
@@ -33,4 +26,4 @@ unfolding guarded
 returns-2 c = rw (sym (c .before .consistent .ensures) ∙ c .if1 .left)
 
 pub remove-spec : {M : Type 1} → statement M
-remove-spec = tie.close (tie.spec consistent-requires remove-sound-requires returns returns-2)
+remove-spec = tie.close (tie.spec (λ c κs. search needs) remove-sound-requires returns returns-2)

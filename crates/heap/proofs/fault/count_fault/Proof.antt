@@ -6,9 +6,6 @@ use borrow.Author.Tests.{le-leb, lt-leb, eq-eqb, ne-eqb}
 use Rattle.heap.specs.Faults.{countOk, countFault}
 use Rattle.heap.proofs.fault.count_fault.Statement.{statement}
 use Rattle.heap.proofs.fault.count_fault.Tie as tie
-use Rattle.heap.proofs.fault.count_fault.Reads as reads
-use Rattle.heap.proofs.fault.count_fault.Lts as lts
-use Rattle.heap.proofs.fault.full_count.Reads as full-count-reads
 
 returns : tie.Need-returns
 unfolding countFault countOk
@@ -17,9 +14,6 @@ returns c = simp (lt-leb _ _ (c .if1 .taken))
 returns-2 : tie.Need-returns-2
 unfolding countFault countOk
 returns-2 c = simp (le-leb _ _ (c .before .before .if1 .left), lt-leb _ _ (c .if2 .taken))
-
-full-count-requires : tie.Need-full-count-requires
-full-count-requires c κs = search needs
 
 returns-3 : tie.Need-returns-3
 unfolding countFault countOk
@@ -33,4 +27,4 @@ returns-4 c =
     (le-leb _ _ (c .before .before .before .before .before .if1 .left), le-leb _ _ (c .before .before .before .if2 .left), ne-eqb _ _ (λ e. c .if3 .left (c .before .before .full-count .ensures ∙ e)))
 
 pub count-fault-spec : {M : Type 1} → statement M
-count-fault-spec = tie.close (tie.spec returns returns-2 full-count-requires returns-3 returns-4)
+count-fault-spec = tie.close (tie.spec returns returns-2 (λ c κs. search needs) returns-3 returns-4)

@@ -1,25 +1,13 @@
 -- `fault::first_fault` is right: each test is made where those before it found no fault, and the counts, once found in order, keep
 -- the other scans in range.
 -- Assumes nothing.
-use mathlib.Core.Path.{sym, _∙_}
+use mathlib.Core.Path.{_∙_}
 use borrow.Author.Needs.{needs}
 use Rattle.heap.specs.Faults.{faultOf}
 use Rattle.heap.proofs.FaultLaws.{is-fault, stops, goes-on}
 use Rattle.heap.proofs.Test.{counts}
 use Rattle.heap.proofs.fault.first_fault.Statement.{statement}
 use Rattle.heap.proofs.fault.first_fault.Tie as tie
-use Rattle.heap.proofs.fault.first_fault.Reads as reads
-use Rattle.heap.proofs.fault.first_fault.Lts as lts
-use Rattle.heap.proofs.fault.chain_fault.Reads as chain-fault-reads
-use Rattle.heap.proofs.fault.count_fault.Reads as count-fault-reads
-use Rattle.heap.proofs.fault.order_fault.Reads as order-fault-reads
-use Rattle.heap.proofs.fault.position_fault.Reads as position-fault-reads
-
-count-fault-requires : tie.Need-count-fault-requires
-count-fault-requires c κs = search needs
-
-enum-told : tie.Need-enum-told
-enum-told c = search needs
 
 returns : tie.Need-returns
 unfolding faultOf
@@ -30,9 +18,6 @@ position-fault-requires c κs =
     let k = counts _ (c .before .before .count-fault .ensures) (c .enum-told .given .1) in
     (k .0, k .1 .made-in)
 
-enum-told-2 : tie.Need-enum-told-2
-enum-told-2 c = search needs
-
 returns-2 : tie.Need-returns-2
 unfolding faultOf
 returns-2 c =
@@ -41,9 +26,6 @@ returns-2 c =
 
 order-fault-requires : tie.Need-order-fault-requires
 order-fault-requires c κs = counts _ (c .before .before .before .before .before .count-fault .ensures) (c .before .before .before .enum-told .given .1) .0
-
-enum-told-3 : tie.Need-enum-told-3
-enum-told-3 c = search needs
 
 returns-3 : tie.Need-returns-3
 unfolding faultOf
@@ -67,14 +49,14 @@ pub first-fault-spec : {M : Type 1} → statement M
 first-fault-spec =
     tie.close
     (tie.spec
-    count-fault-requires
-    enum-told
+    (λ c κs. search needs)
+    (λ c. search needs)
     returns
     position-fault-requires
-    enum-told-2
+    (λ c. search needs)
     returns-2
     order-fault-requires
-    enum-told-3
+    (λ c. search needs)
     returns-3
     chain-fault-requires
     returns-4)

@@ -11,8 +11,6 @@ use Rattle.heap.specs.Faults.{fullAt}
 use Rattle.heap.proofs.FaultLaws.{full-yes, full-no}
 use Rattle.heap.proofs.fault.full_count.Statement.{statement}
 use Rattle.heap.proofs.fault.full_count.Tie as tie
-use Rattle.heap.proofs.fault.full_count.Reads as reads
-use Rattle.heap.proofs.fault.full_count.Lts as lts
 
 abbrev Inv-loop : tie.InvT-loop
 Inv-loop h n₀ s₀ n s = (s ≤ h .made) × (n ≤ s) × (n ≡ count (fullAt h) s)
@@ -24,29 +22,8 @@ loop-holds : tie.Need-loop-holds Inv-loop μ-loop
 unfolding count
 loop-holds c = (search needs, search needs, refl)
 
-mul-x : tie.Need-mul-x Inv-loop μ-loop
-mul-x c = search needs
-
-element-copy-out-x : tie.Need-element-copy-out-x Inv-loop μ-loop
-element-copy-out-x c = search needs
-
-enum-told : tie.Need-enum-told Inv-loop μ-loop
-enum-told c = search needs
-
-add-n : tie.Need-add-n Inv-loop μ-loop
-add-n c = search needs
-
-enum-told-2 : tie.Need-enum-told-2 Inv-loop μ-loop
-enum-told-2 c = search needs
-
-add-s : tie.Need-add-s Inv-loop μ-loop
-add-s c = search needs
-
-loop-less : tie.Need-loop-less Inv-loop μ-loop
-loop-less c = search needs
-
 loop-again : tie.Need-loop-again Inv-loop μ-loop
-loop-again c = 
+loop-again c =
     let l = c .before .before .before .loop in
     let h = c .before .before .before .before .args .t1 in
     ⊎-elim
@@ -55,7 +32,7 @@ loop-again c =
     (c .match .came)
 
 returns : tie.Need-returns Inv-loop μ-loop
-returns c = 
+returns c =
     let h = c .before .before .args .t1 in
     let e : c .before .loop .s ≡ h .made = omega arith in
     c .before .loop .inv .2 ∙ ap (count (fullAt h)) e
@@ -67,12 +44,12 @@ full-count-spec =
     Inv-loop
     μ-loop
     loop-holds
-    mul-x
-    element-copy-out-x
-    enum-told
-    add-n
-    enum-told-2
-    add-s
-    loop-less
+    (λ c. search needs)
+    (λ c. search needs)
+    (λ c. search needs)
+    (λ c. search needs)
+    (λ c. search needs)
+    (λ c. search needs)
+    (λ c. search needs)
     loop-again
     returns)

@@ -1,6 +1,6 @@
 -- `fault::position_fault` is right: at each turn the scan of the positions to go finds what the whole scan finds.
 -- Assumes nothing.
-use mathlib.Core.Path.{_≡_, refl, sym, _∙_}
+use mathlib.Core.Path.{_≡_, sym, _∙_}
 use Prim.Native.Nat.{_≤_, _-_}
 use native.Mathlib.Nat.{sub-zero}
 use native.Mathlib.Omega.{arith}
@@ -10,8 +10,6 @@ use Rattle.heap.specs.Faults.{positionOk, positionFault}
 use Rattle.heap.proofs.FaultLaws.{scan, scan-goes, scan-here, scan-done, position-past, position-empty, position-other, position-yes}
 use Rattle.heap.proofs.fault.position_fault.Statement.{statement}
 use Rattle.heap.proofs.fault.position_fault.Tie as tie
-use Rattle.heap.proofs.fault.position_fault.Reads as reads
-use Rattle.heap.proofs.fault.position_fault.Lts as lts
 
 abbrev Inv-loop : tie.InvT-loop
 Inv-loop h i₀ i = (i ≤ h .len) × (scan Position (positionOk h) (h .len) i ≡ positionFault h)
@@ -23,57 +21,27 @@ loop-holds : tie.Need-loop-holds Inv-loop μ-loop
 unfolding scan positionFault
 loop-holds c = (search needs, simp sub-zero)
 
-mul-e : tie.Need-mul-e Inv-loop μ-loop
-mul-e c = search needs
-
-element-copy-out-e : tie.Need-element-copy-out-e Inv-loop μ-loop
-element-copy-out-e c = search needs
-
-cast-s : tie.Need-cast-s Inv-loop μ-loop
-cast-s c = search needs
-
 returns : tie.Need-returns Inv-loop μ-loop
-returns c = 
+returns c =
     let h = c .before .before .before .before .before .args .t1 in
     let l = c .before .before .before .before .loop in
     sym (scan-here Position (positionOk h) (omega arith) (position-past h (l .i) (c .if1 .taken))) ∙ l .inv .1
 
-mul-x : tie.Need-mul-x Inv-loop μ-loop
-mul-x c = search needs
-
-element-copy-out-x : tie.Need-element-copy-out-x Inv-loop μ-loop
-element-copy-out-x c = search needs
-
-enum-known-st : tie.Need-enum-known-st Inv-loop μ-loop
-enum-known-st c = search needs
-
-enum-told : tie.Need-enum-told Inv-loop μ-loop
-enum-told c = search needs
-
 returns-2 : tie.Need-returns-2 Inv-loop μ-loop
-returns-2 c = 
+returns-2 c =
     let h = c .before .before .before .before .before .before .before .before .args .t1 in
     let l = c .before .before .before .before .before .before .before .loop in
     sym (scan-here Position (positionOk h) (omega arith) (position-empty h (l .i) (c .before .before .before .if1 .left) (c .enum-told .given .1))) ∙ l .inv .1
 
-cast-if2 : tie.Need-cast-if2 Inv-loop μ-loop
-cast-if2 c = search needs
-
 returns-3 : tie.Need-returns-3 Inv-loop μ-loop
-returns-3 c = 
+returns-3 c =
     let h = c .before .before .before .before .before .before .before .before .before .before .before .args .t1 in
     let l = c .before .before .before .before .before .before .before .before .before .before .loop in
     sym (scan-here Position (positionOk h) (omega arith) (position-other h (l .i) (c .before .before .before .before .before .before .if1 .left) (c .before .before .before .st .given .1) (c .if2 .taken)))
     ∙ l .inv .1
 
-add-i : tie.Need-add-i Inv-loop μ-loop
-add-i c = search needs
-
-loop-less : tie.Need-loop-less Inv-loop μ-loop
-loop-less c = search needs
-
 loop-again : tie.Need-loop-again Inv-loop μ-loop
-loop-again c = 
+loop-again c =
     let h = c .before .before .before .before .before .before .before .before .before .before .before .args .t1 in
     let l = c .before .before .before .before .before .before .before .before .before .before .loop in (
       omega arith,
@@ -90,18 +58,18 @@ position-fault-spec =
     Inv-loop
     μ-loop
     loop-holds
-    mul-e
-    element-copy-out-e
-    cast-s
+    (λ c. search needs)
+    (λ c. search needs)
+    (λ c. search needs)
     returns
-    mul-x
-    element-copy-out-x
-    enum-known-st
-    enum-told
+    (λ c. search needs)
+    (λ c. search needs)
+    (λ c. search needs)
+    (λ c. search needs)
     returns-2
-    cast-if2
+    (λ c. search needs)
     returns-3
-    add-i
-    loop-less
+    (λ c. search needs)
+    (λ c. search needs)
     loop-again
     returns-4)
