@@ -1,3 +1,5 @@
+pub mod Laws
+pub mod SoundFacts
 pub mod FaultLaws
 pub mod ChainLaws
 pub mod Test

@@ -8,7 +8,8 @@ use borrow.Author.Needs.{needs}
 use Rattle.theory.specs.Counting.{count}
 use Rattle.theory.proofs.Counting.{count-yes, count-no}
 use Rattle.heap.specs.Faults.{fullAt}
-use Rattle.heap.proofs.FaultLaws.{full-yes, full-no}
+use Rattle.heap.proofs.SoundFacts.{full-at}
+use Rattle.heap.proofs.FaultLaws.{full-no}
 use Rattle.heap.proofs.fault.full_count.Statement.{statement}
 use Rattle.heap.proofs.fault.full_count.Tie as tie
 
@@ -27,7 +28,7 @@ loop-again c =
     let l = c .before .before .before .loop in
     let h = c .before .before .before .before .args .t1 in
     ⊎-elim
-    (λ w. (omega arith, omega arith, omega (arith, w .2, count-yes (fullAt h) (l .s) (full-yes h (l .s) (w .1 .given .1)))))
+    (λ w. (omega arith, omega arith, omega (arith, w .2, count-yes (fullAt h) (l .s) (full-at h (l .s) _ (w .1 .given .1)))))
     (λ w. (omega arith, omega arith, omega (arith, w .2, count-no (fullAt h) (l .s) (full-no h (l .s) (w .1 .given .1)))))
     (c .match .came)
 

@@ -1,110 +1,92 @@
+-- The rest of the way up, from where the entry stands, is always the whole way; at its end nothing is left of it.
+-- Assumes nothing.
+use mathlib.Core.Path.{_≡_, refl, sym, _∙_}
+use mathlib.Core.Logic.{⊎-elim}
+use mathlib.Core.Bool.{true, false}
+use Prim.Native.Nat.{ℕ, _+_, _-_, _<_, _≤_}
+use native.Mathlib.Nat.{sub-zero}
+use native.Mathlib.Omega.{arith}
+use borrow.Author.Tests.{not-true, not-false}
+use Rattle.theory.specs.Order.{parent}
+use Rattle.heap.specs.Capacity.{cap}
+use Rattle.heap.specs.declared.Heap.{Heap}
+use Rattle.heap.specs.Rules.{slotAt, putAt, swapAt, risesAt, upFrom}
+use Rattle.heap.specs.Sound.{SlotsIn}
+use borrow.Author.Needs.{needs}
+use Rattle.heap.proofs.Laws.{slots-in-swap, rises-is, top-stays, up-stop, up-step}
 use Rattle.heap.proofs.walk.percolate_up.Statement.{statement}
 use Rattle.heap.proofs.walk.percolate_up.Tie as tie
-use Rattle.heap.proofs.walk.percolate_up.Reads as reads
-use Rattle.heap.proofs.walk.percolate_up.Lts as lts
-use Rattle.heap.proofs.before.Reads as before-reads
+
+-- the rest of the way up, and what keeps it in range
+record Up (from : ℕ) (h g : Heap) (i n : ℕ) : Type 0 where
+  pub range : SlotsIn g
+  pub as-long : g .len ≡ h .len
+  pub here : from < h .len
+  pub left : i + n ≤ from
+  pub rest : upFrom (from - n) g i n ≡ upFrom from h from 0
 
 abbrev Inv-loop : tie.InvT-loop
-Inv-loop from g₀ i₀ n₀ g i n = ?
+Inv-loop from g₀ i₀ n₀ g i n = Up from g₀ g i n
 
 abbrev μ-loop : tie.MeasureT-loop
-μ-loop from g₀ i₀ n₀ g i n = ?
+μ-loop from g₀ i₀ n₀ g i n = i
 
--- src/walk.rt:26:5
 loop-holds : tie.Need-loop-holds Inv-loop μ-loop
-loop-holds c = ?
+loop-holds c = record { range = c .pre .1; as-long = refl; here = c .pre .0; left = search needs; rest = simp sub-zero }
 
--- src/walk.rt:27:18
-sub-p : tie.Need-sub-p Inv-loop μ-loop
-sub-p c = ?
+-- the slots of the entry and of its parent are in the slab
+both-in : (c : tie.After-struct-known2 Inv-loop μ-loop) → (slotAt (c .before .before .before .before .before .before .before .loop .g) (c .before .before .before .before .before .before .before .loop .i) < cap) × (slotAt (c .before .before .before .before .before .before .before .loop .g) (parent (c .before .before .before .before .before .before .before .loop .i)) < cap)
+both-in c =
+    let l = c .before .before .before .before .before .before .before .loop in (
+      l .inv .range .slots-in (l .i) (omega (arith, l .inv .left, l .inv .here, l .inv .as-long)),
+      l .inv .range .slots-in (parent (l .i)) (omega (arith, l .inv .left, l .inv .here, l .inv .as-long)),
+    )
 
--- src/walk.rt:28:17
-mul-e : tie.Need-mul-e Inv-loop μ-loop
-mul-e c = ?
+-- where the loop goes on, the entry rises
+rises : (c : tie.Else1 Inv-loop μ-loop) → risesAt (c .before .before .before .before .before .loop .g) (c .before .before .before .before .before .loop .i) ≡ true
+rises c = rises-is _ _ (c .before .before .before .before .loop-test .taken) ∙ sym (c .before .before2 .ensures) ∙ not-false _ (c .if1 .left)
 
--- src/walk.rt:28:17
-element-copy-out-e : tie.Need-element-copy-out-e Inv-loop μ-loop
-element-copy-out-e c = ?
+-- where it ends, the entry does not
+stays : (c : tie.Left-loop Inv-loop μ-loop) → risesAt (c .before .loop .g) (c .before .loop .i) ≡ false
+stays c =
+    ⊎-elim (λ w. top-stays _ _ (omega (arith, w .left)))
+    (λ w. rises-is _ _ (w .0 .taken) ∙ sym (w .3 .ensures) ∙ not-true _ (w .4 .taken))
+    (c .loop-test .came)
 
--- src/walk.rt:29:17
-mul-f : tie.Need-mul-f Inv-loop μ-loop
-mul-f c = ?
-
--- src/walk.rt:29:17
-element-copy-out-f : tie.Need-element-copy-out-f Inv-loop μ-loop
-element-copy-out-f c = ?
-
--- src/walk.rt:30:13
-before-requires : tie.Need-before-requires Inv-loop μ-loop
-before-requires c κs = ?
-
--- src/walk.rt:33:17
-cast-s : tie.Need-cast-s Inv-loop μ-loop
-cast-s c = ?
-
--- src/walk.rt:34:17
 cast-t : tie.Need-cast-t Inv-loop μ-loop
-cast-t c = ?
+cast-t c = omega (arith, both-in c)
 
--- src/walk.rt:35:9
-mul-f-2 : tie.Need-mul-f-2 Inv-loop μ-loop
-mul-f-2 c = ?
-
--- src/walk.rt:35:9
-element-set-from-f : tie.Need-element-set-from-f Inv-loop μ-loop
-element-set-from-f c = ?
-
--- src/walk.rt:37:40
-cast-t21 : tie.Need-cast-t21 Inv-loop μ-loop
-cast-t21 c = ?
-
--- src/walk.rt:36:9
 mul-g : tie.Need-mul-g Inv-loop μ-loop
-mul-g c = ?
+mul-g c = omega (arith, both-in c)
 
--- src/walk.rt:36:9
 element-set-from-g : tie.Need-element-set-from-g Inv-loop μ-loop
-element-set-from-g c = ?
+element-set-from-g c = both-in c .1
 
--- src/walk.rt:39:9
-mul-e-2 : tie.Need-mul-e-2 Inv-loop μ-loop
-mul-e-2 c = ?
-
--- src/walk.rt:39:9
-element-set-from-e : tie.Need-element-set-from-e Inv-loop μ-loop
-element-set-from-e c = ?
-
--- src/walk.rt:41:40
-cast-t21-2 : tie.Need-cast-t21-2 Inv-loop μ-loop
-cast-t21-2 c = ?
-
--- src/walk.rt:40:9
 mul-t12 : tie.Need-mul-t12 Inv-loop μ-loop
-mul-t12 c = ?
+mul-t12 c = omega (arith, both-in c)
 
--- src/walk.rt:40:9
 element-set-from-g-2 : tie.Need-element-set-from-g-2 Inv-loop μ-loop
-element-set-from-g-2 c = ?
+element-set-from-g-2 c = both-in c .0
 
--- src/walk.rt:44:9
-add-n : tie.Need-add-n Inv-loop μ-loop
-add-n c = ?
-
--- src/walk.rt:26:5
-loop-less : tie.Need-loop-less Inv-loop μ-loop
-loop-less c = ?
-
--- src/walk.rt:26:5
 loop-again : tie.Need-loop-again Inv-loop μ-loop
-loop-again c = ?
+unfolding swapAt putAt
+loop-again c =
+    let l = c .before .before .before .before .before .before .before .loop in
+    let v = l .inv in
+    let b = c .before .before .before .before .before .before .loop-test .taken in
+    record {
+      range =
+          slots-in-swap (l .g) (l .i) (parent (l .i)) (omega (arith, v)) (omega (arith, v)) (v .range);
+      as-long = v .as-long;
+      here = v .here;
+      left = omega (arith, v .left, b);
+      rest =
+          sym (up-step _ _ (l .g) (l .i) (l .n) (omega (arith, v .left, b)) (rises (c .before .before)))
+          ∙ v .rest;
+    }
 
--- src/walk.rt:48:17
-cast-t32 : tie.Need-cast-t32 Inv-loop μ-loop
-cast-t32 c = ?
-
--- src/walk.rt:18:1
 returns : tie.Need-returns Inv-loop μ-loop
-returns c = ?
+returns c = sym (up-stop _ _ _ _ (stays c)) ∙ c .before .loop .inv .rest
 
 pub percolate-up-spec : {M : Type 1} → statement M
 percolate-up-spec =
@@ -113,26 +95,26 @@ percolate-up-spec =
     Inv-loop
     μ-loop
     loop-holds
-    sub-p
-    mul-e
-    element-copy-out-e
-    mul-f
-    element-copy-out-f
-    before-requires
-    cast-s
+    (λ c. search needs)
+    (λ c. search needs)
+    (λ c. search needs)
+    (λ c. search needs)
+    (λ c. search needs)
+    (λ c κs. search needs)
+    (λ c. search needs)
     cast-t
-    mul-f-2
-    element-set-from-f
-    cast-t21
+    (λ c. search needs)
+    (λ c. search needs)
+    (λ c. search needs)
     mul-g
     element-set-from-g
-    mul-e-2
-    element-set-from-e
-    cast-t21-2
+    (λ c. search needs)
+    (λ c. search needs)
+    (λ c. search needs)
     mul-t12
     element-set-from-g-2
-    add-n
-    loop-less
+    (λ c. search needs)
+    (λ c. search needs)
     loop-again
-    cast-t32
+    (λ c. search needs)
     returns)
