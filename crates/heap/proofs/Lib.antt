@@ -20,3 +20,8 @@ pub mod SoundKept
 pub mod Bounds
 pub mod Entries
 pub mod Pops
+pub mod FaultLaws
+pub mod ChainLaws
+pub mod Test
+pub mod FreshSound
+pub mod NoSecond

@@ -33,7 +33,8 @@ count-not f g (suc n) h = go (f n) (g n) (h n (omega arith)) (count-not f g n (�
     go false true e r = omega arith
     go false false e r = absurd (false≢true e)
 
-empty-not : (h : Heap) (s : ℕ) → s < h .made → emptyAt h s ≡ not (fullAt h s)
+-- a slot that was made is empty where it is not full
+pub empty-not : (h : Heap) (s : ℕ) → s < h .made → emptyAt h s ≡ not (fullAt h s)
 unfolding emptyAt fullAt
 empty-not h s b = rw (lt-ltb s (h .made) b)
 

@@ -8,11 +8,12 @@ use Rattle.heap.specs.declared.Slot.{Slot}
 use Rattle.heap.specs.declared.Place.{Place}
 use Rattle.heap.specs.declared.Entry.{Entry}
 use Rattle.heap.specs.declared.Heap.{Heap}
+use Rattle.heap.specs.declared.fault.Fault.{Fault}
 use Rattle.heap.specs.declared.AfterPush.{AfterPush}
 use Rattle.heap.specs.declared.AfterRemove.{AfterRemove}
 use Rattle.heap.specs.declared.Peeked.{Peeked}
 use Rattle.heap.specs.Rules.{before}
-use Rattle.heap.specs.Faults.{consistentOf}
+use Rattle.heap.specs.Faults.{faultOf, consistentOf}
 use Rattle.heap.specs.Calls.{freshOf, heightOf, pushOf, removeOf, popOf, peekOf, pushSound, removeSound, popSound, peekSound, saidPeek, toldPush, toldRemove}
 
 abbrev pub Capacity : ℕ → Type 0
@@ -27,6 +28,9 @@ Fresh r = r ≡ freshOf
 
 abbrev pub Heights : ℕ → ℕ → Type 0
 Heights n r = r ≡ heightOf n
+
+abbrev pub Faults : Heap → Fault → Type 0
+Faults h r = r ≡ faultOf h
 
 abbrev pub Consistent : Heap → Bool → Type 0
 Consistent h r = r ≡ consistentOf h

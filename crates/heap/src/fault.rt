@@ -8,7 +8,8 @@ ghost use Prim.Native.Nat.{_≤_};
 ghost use Rattle.theory.specs.Counting.{count};
 ghost use Rattle.heap.specs.Capacity.{cap};
 ghost use Rattle.heap.specs.Sound.{Counted};
-ghost use Rattle.heap.specs.Faults.{fullAt, countFault, positionFault, orderFault, chainFault, faultOf};
+ghost use Rattle.heap.specs.Faults.{fullAt, countFault, positionFault, orderFault, chainFault};
+ghost use Rattle.heap.specs.Promises.{Faults};
 
 // What is wrong with a heap, and where.
 pub enum Fault {
@@ -25,7 +26,7 @@ pub enum Fault {
 
 // The first fault of a heap, in the order of the kinds.
 pub fn first_fault(h: Heap) -> Fault
-    ensures { λ r. ⌜ r ≡ faultOf h ⌝ }
+    ensures { λ r. ⌜ Faults h r ⌝ }
 {
     let c = count_fault(h);
     let Fault::No = c else {

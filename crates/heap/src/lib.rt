@@ -5,7 +5,7 @@
 // The calls are `fresh`, `push`, `remove`, `pop`, `peek`, `consistent` and `height`. Each call on a heap tests it first and
 // refuses an unsound one; `push_sound`, `remove_sound`, `pop_sound` and `peek_sound` do the work for a caller that has made the
 // test itself. What an entry's place and generation mean is the caller's affair.
-mod fault;
+pub mod fault;
 mod walk;
 
 use refusals::Refusal;
