@@ -1,0 +1,269 @@
+// The test of soundness: what is wrong with a set, as scans that stop at the first fault. It is total on any value.
+use crate::{First, Held, Life, Set, Timer, Waiting};
+use heap::{Entry, SlotState};
+
+ghost use mathlib.Core.Path.{_≡_};
+ghost use Prim.Native.Nat.{_≤_};
+ghost use Rattle.theory.specs.Counting.{count};
+ghost use Rattle.heap.specs.Capacity.{cap};
+ghost use Rattle.heap.specs.Sound as HeapSound;
+ghost use Rattle.state.specs.Faults.{heapFault, waitsAt, listScan, lower as lowerOf, idleIn, lifeOk, entryFits, firstPlace, entryScan, scanned};
+ghost use Rattle.state.specs.Promises.{Faults, Waits, Follows};
+
+// How many generations there are: 2^30.
+const GENERATIONS: u32 = 1_073_741_824;
+
+// What is wrong with a set, and where. The first four are the heap's.
+pub enum Fault {
+    No,
+    Count,
+    Position(usize),
+    Order(usize),
+    FreeChain(usize),
+    // the step along the waiting list at which it goes wrong
+    List(usize),
+    // the lowest place at fault; that of a heap entry is the place number that it holds, however large
+    Place(usize),
+}
+
+// What a scan finds.
+pub enum Scan {
+    Fine,
+    At(usize),
+}
+
+// The first fault of a set, in the order of the kinds.
+pub fn first_fault(s: Set) -> Fault
+    ensures { λ r. ⌜ Faults s r ⌝ }
+{
+    let h = s.heap;
+    let f = heap::fault::first_fault(h);
+    let heap::fault::Fault::No = f else {
+        return of_heap(f);
+    };
+    if let Scan::At(k) = list_scan(s) {
+        return Fault::List(k);
+    }
+    match lower(place_scan(s), entry_scan(s)) {
+        Scan::Fine => Fault::No,
+        Scan::At(p) => Fault::Place(p),
+    }
+}
+
+// A heap's fault as the set's.
+fn of_heap(f: heap::fault::Fault) -> Fault
+    ensures { λ r. ⌜ r ≡ heapFault f ⌝ }
+{
+    match f {
+        heap::fault::Fault::No => Fault::No,
+        heap::fault::Fault::Count => Fault::Count,
+        heap::fault::Fault::Position(i) => Fault::Position(i),
+        heap::fault::Fault::Order(i) => Fault::Order(i),
+        heap::fault::Fault::FreeChain(k) => Fault::FreeChain(k),
+    }
+}
+
+// Whether a timer is in the waiting list.
+pub fn waits(w: Waiting) -> bool
+    ensures { λ r. ⌜ Waits w r ⌝ }
+{
+    match w {
+        Waiting::No => false,
+        Waiting::Last => true,
+        Waiting::Before(_) => true,
+    }
+}
+
+// The head of the list once a timer that waits so is taken off it.
+pub fn after(w: Waiting) -> First
+    ensures { λ r. ⌜ Follows w r ⌝ }
+{
+    match w {
+        Waiting::No => First::Nothing,
+        Waiting::Last => First::Nothing,
+        Waiting::Before(q) => First::At(q),
+    }
+}
+
+// How many timers wait.
+fn waiting_count(s: Set) -> usize
+    ensures { λ r. ⌜ r ≡ count (waitsAt s) cap ⌝ }
+{
+    let mut n: usize = 0;
+    let mut p: usize = 0;
+    while p < heap::CAP {
+        let t = s.timers[p];
+        let w = t.waiting;
+        if waits(w) {
+            n += 1;
+        }
+        p += 1;
+    }
+    n
+}
+
+// The step along the waiting list at which it meets a timer that does not wait, ends too soon, or goes on too long.
+fn list_scan(s: Set) -> Scan
+    ensures { λ r. ⌜ scanned r ≡ listScan s ⌝ }
+{
+    let mut left = waiting_count(s);
+    let mut step: usize = 0;
+    let mut at = s.first;
+    while 0 < left {
+        let First::At(place) = at else {
+            return Scan::At(step);
+        };
+        let p = place.0 as usize;
+        if heap::CAP <= p {
+            return Scan::At(step);
+        }
+        let t = s.timers[p];
+        let w = t.waiting;
+        if !waits(w) {
+            return Scan::At(step);
+        }
+        at = after(w);
+        left -= 1;
+        step += 1;
+    }
+    if let First::Nothing = at {
+        Scan::Fine
+    } else {
+        Scan::At(step)
+    }
+}
+
+// The lower of two places at fault.
+fn lower(a: Scan, b: Scan) -> Scan
+    ensures { λ r. ⌜ scanned r ≡ lowerOf (scanned a) (scanned b) ⌝ }
+{
+    let Scan::At(p) = a else {
+        return b;
+    };
+    let Scan::At(q) = b else {
+        return a;
+    };
+    if p <= q { a } else { b }
+}
+
+// Whether a timer neither waits nor names a slot.
+fn idle(t: Timer) -> bool
+    ensures { λ r. ⌜ r ≡ idleIn t ⌝ }
+{
+    let w = t.waiting;
+    if waits(w) {
+        return false;
+    }
+    let d = t.held;
+    match d {
+        Held::Nothing => true,
+        Held::At(_) => false,
+    }
+}
+
+// Whether a timer's parts go together, by whose place it is.
+fn life_ok(closed: bool, t: Timer) -> bool
+    ensures { λ r. ⌜ r ≡ lifeOk closed t (t .life) ⌝ }
+{
+    let l = t.life;
+    let w = t.waiting;
+    match l {
+        Life::Free => idle(t),
+        Life::Live { word, due: _ } => {
+            if closed {
+                return true;
+            }
+            !word::invalid(word)
+        }
+        Life::Cancelled { word } => {
+            if closed {
+                return true;
+            }
+            if word::invalid(word) {
+                return false;
+            }
+            waits(w)
+        }
+        Life::Retired => idle(t),
+    }
+}
+
+// The first place whose timer's parts do not go together, that waits or names a slot in a closed set, or that names a slot whose
+// entry is not its own.
+fn place_scan(s: Set) -> Scan
+    requires { ⌜ HeapSound.Sound (s .heap) ⌝ }
+    ensures { λ r. ⌜ scanned r ≡ firstPlace s ⌝ }
+{
+    let h = s.heap;
+    let closed = s.closed;
+    let mut p: usize = 0;
+    while p < heap::CAP {
+        let t = s.timers[p];
+        if !life_ok(closed, t) {
+            return Scan::At(p);
+        }
+        if closed {
+            if !idle(t) {
+                return Scan::At(p);
+            }
+        }
+        let d = t.held;
+        if let Held::At(slot) = d {
+            let q = slot.0 as usize;
+            if h.made <= q {
+                return Scan::At(p);
+            }
+            let x = h.slots[q];
+            let st = x.state;
+            let SlotState::Full(pos) = st else {
+                return Scan::At(p);
+            };
+            let i = pos.0 as usize;
+            let e = h.entries[i];
+            let o = e.place.0 as usize;
+            if o != p {
+                return Scan::At(p);
+            }
+        }
+        p += 1;
+    }
+    Scan::Fine
+}
+
+// Whether an entry's generation is in range, and its place, which holds that, names its slot.
+fn entry_ok(e: Entry, held: Held) -> bool
+    ensures { λ r. ⌜ r ≡ entryFits e held ⌝ }
+{
+    if GENERATIONS <= e.generation {
+        return false;
+    }
+    match held {
+        Held::Nothing => false,
+        Held::At(slot) => slot.0 == e.slot.0,
+    }
+}
+
+// The lowest place number of an entry that holds a place or a generation out of range, or whose place does not name its slot.
+fn entry_scan(s: Set) -> Scan
+    requires { ⌜ HeapSound.Sound (s .heap) ⌝ }
+    ensures { λ r. ⌜ scanned r ≡ entryScan s (s .heap .len) ⌝ }
+{
+    let h = s.heap;
+    let mut low = Scan::Fine;
+    let mut i: usize = 0;
+    while i < h.len {
+        let e = h.entries[i];
+        let p = e.place.0 as usize;
+        if heap::CAP <= p {
+            low = lower(low, Scan::At(p));
+        } else {
+            let t = s.timers[p];
+            let d = t.held;
+            if !entry_ok(e, d) {
+                low = lower(low, Scan::At(p));
+            }
+        }
+        i += 1;
+    }
+    low
+}

@@ -1,0 +1,75 @@
+-- What each call on a set of timers promises of its answer r, and of the lent list as it is at the end.
+-- Assumes nothing.
+use mathlib.Core.Path.{_≡_}
+use mathlib.Core.Option.{Option, none, some}
+use mathlib.Core.List.{List}
+use Prim.Native.Nat.{ℕ}
+use Rattle.refusals.specs.declared.Refusal.{Refusal}
+use Rattle.interval.specs.declared.Policy.{Policy}
+use Rattle.state.specs.declared.Set.{Set}
+use Rattle.state.specs.declared.Handle.{Handle}
+use Rattle.timers.specs.declared.Call.{Call}
+use Rattle.timers.specs.declared.After.{After}
+use Rattle.timers.specs.declared.Timing as T
+use Rattle.timers.specs.declared.Timing.the-variants as V
+use Rattle.timers.specs.declared.ring.Rung.{Rung}
+use Rattle.timers.specs.Rules.{Ring, advancedOf}
+use Rattle.timers.specs.Calls.{Timing, liveAt, resetTo, refusing, addOf, resetOf, cancelOf, drainOf, advanceOf, turnOf, nextWakeOf, pollOf, closeOf, tickAt, restartAt, step, told, toldWith}
+
+abbrev pub Adds : Set → ℕ → After → Type 0
+Adds s d r = told r ≡ addOf s d
+
+abbrev pub Resets : Set → Handle → ℕ → After → Type 0
+Resets s h d r = told r ≡ resetOf s h d
+
+abbrev pub Cancels : Set → Handle → After → Type 0
+Cancels s h r = told r ≡ cancelOf s h
+
+abbrev pub Drains : Set → After → Type 0
+Drains s r = told r ≡ drainOf s
+
+abbrev pub Advances : Set → ℕ → List ℕ → After → List ℕ → Type 0
+Advances s N l r l′ = toldWith r l′ ≡ advanceOf s N l
+
+abbrev pub Turns : Set → ℕ → List ℕ → After → List ℕ → Type 0
+Turns s N l r l′ = toldWith r l′ ≡ turnOf s N l
+
+abbrev pub Wakes : Set → After → Type 0
+Wakes s r = told r ≡ nextWakeOf s
+
+abbrev pub Polls : Set → Handle → After → Type 0
+Polls s h r = told r ≡ pollOf s h
+
+abbrev pub Closes : Set → After → Type 0
+Closes s r = told r ≡ closeOf s
+
+abbrev pub Ticks : Set → Handle → Policy → ℕ → ℕ → After → Type 0
+Ticks s h p period N r = told r ≡ tickAt s h p period N
+
+abbrev pub Restarts : Set → Handle → ℕ → ℕ → After → Type 0
+Restarts s h period N r = told r ≡ restartAt s h period N
+
+abbrev pub Performs : Set → Call → List ℕ → After → List ℕ → Type 0
+Performs s c l r l′ = toldWith r l′ ≡ step s c l
+
+-- and the functions inside
+
+abbrev pub Refuses : Set → Refusal → After → Type 0
+Refuses s why r = told r ≡ refusing s why
+
+abbrev pub found : T.Timing → Option Timing
+found V.Dead = none
+found (V.Live w d) = some (record { word = w; due = d })
+
+abbrev pub Finds : Set → Handle → T.Timing → Type 0
+Finds s h r = found r ≡ liveAt s h
+
+abbrev pub ResetsTo : Set → Handle → ℕ → ℕ → Set → Type 0
+ResetsTo s h w d r = r ≡ resetTo s h d (record { word = w; due = d })
+
+-- an advance's set, counts and list
+abbrev pub ringOf : Rung → List ℕ → Ring
+ringOf r l = record { set = r .set; list = l; reported = r .reported; popped = r .popped }
+
+abbrev pub Rings : Set → ℕ → List ℕ → Rung → List ℕ → Type 0
+Rings s N l r l′ = ringOf r l′ ≡ advancedOf s N l
