@@ -1,7 +1,12 @@
 // The test of soundness: what is wrong with a set, as scans that stop at the first fault. It is total on any value.
-use crate::{First, Held, Life, Set, Timer, Waiting};
-use heap::{Entry, SlotState};
-
+use crate::First;
+use crate::Held;
+use crate::Life;
+use crate::Set;
+use crate::Timer;
+use crate::Waiting;
+use heap::Entry;
+use heap::SlotState;
 ghost use mathlib.Core.Path.{_≡_};
 ghost use Prim.Native.Nat.{_≤_};
 ghost use Rattle.theory.specs.Counting.{count};

@@ -5,8 +5,9 @@
 // waiting list runs through the places: `first` names the place at its head, and each waiting timer the next one.
 pub mod fault;
 
-use heap::{Heap, Place, Slot};
-
+use heap::Heap;
+use heap::Place;
+use heap::Slot;
 ghost use Rattle.state.specs.Promises.{Fresh, IsSound, Words};
 
 // Whose place it is.
@@ -84,7 +85,11 @@ pub fn sound(s: Set) -> bool
     ensures { λ r. ⌜ IsSound s r ⌝ }
 {
     let f = fault::first_fault(s);
-    if let fault::Fault::No = f { true } else { false }
+    if let fault::Fault::No = f {
+        true
+    } else {
+        false
+    }
 }
 
 // A handle as one word: the use number in the upper 32 bits, then 16 zero bits, then the place.

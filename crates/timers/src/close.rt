@@ -1,6 +1,10 @@
 // The close: the list is emptied, then the heap by pops, and every timer met in either is marked invalid.
-use state::{First, Held, Life, Set, Timer, Waiting};
-
+use state::First;
+use state::Held;
+use state::Life;
+use state::Set;
+use state::Timer;
+use state::Waiting;
 ghost use mathlib.Core.Path.{_≡_};
 ghost use Rattle.heap.specs.Sound.{Sound};
 ghost use Rattle.heap.specs.Capacity.{cap};

@@ -1,7 +1,12 @@
 // The drain: the waiting updates are made in the order of the list, the newest first.
-use heap::{Heap, Place};
-use state::{First, Held, Life, Set, Timer, Waiting};
-
+use heap::Heap;
+use heap::Place;
+use state::First;
+use state::Held;
+use state::Life;
+use state::Set;
+use state::Timer;
+use state::Waiting;
 ghost use mathlib.Core.Path.{_≡_};
 ghost use Rattle.heap.specs.Sound.{Sound};
 ghost use Rattle.timers.specs.Rules.{droppedOf, heldBy, freedOf, settledOf, drainedOf};

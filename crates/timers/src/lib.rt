@@ -11,26 +11,49 @@ use heap::Place;
 use interval::Policy;
 use refusals::Refusal;
 use refusals::time::Time;
-use state::{Handle, Life, Set};
+use state::Handle;
+use state::Life;
+use state::Set;
 use word::Polled;
-
 ghost use Rattle.timers.specs.Promises.{Adds, Resets, Cancels, Drains, Advances, Turns, Wakes, Polls, Closes, Ticks, Restarts, Performs, Refuses, Finds, ResetsTo};
 ghost use Prim.Native.Nat.{_<_};
 ghost use Rattle.heap.specs.Capacity.{cap};
 
 // A call on a set of timers.
 pub enum Call {
-    Add { due: u64 },
-    Reset { handle: Handle, due: u64 },
-    Cancel { handle: Handle },
+    Add {
+        due: u64,
+    },
+    Reset {
+        handle: Handle,
+        due: u64,
+    },
+    Cancel {
+        handle: Handle,
+    },
     Drain,
-    Advance { reading: u64 },
-    Turn { reading: u64 },
+    Advance {
+        reading: u64,
+    },
+    Turn {
+        reading: u64,
+    },
     NextWake,
-    Poll { handle: Handle },
+    Poll {
+        handle: Handle,
+    },
     Close,
-    Tick { handle: Handle, policy: Policy, period: u64, reading: u64 },
-    Restart { handle: Handle, period: u64, reading: u64 },
+    Tick {
+        handle: Handle,
+        policy: Policy,
+        period: u64,
+        reading: u64,
+    },
+    Restart {
+        handle: Handle,
+        period: u64,
+        reading: u64,
+    },
 }
 
 // What a call answers.
@@ -314,8 +337,17 @@ pub fn perform(s: Set, call: Call, list: &mut [u64]) -> After
         Call::NextWake => next_wake(s),
         Call::Poll { handle } => poll(s, handle),
         Call::Close => close(s),
-        Call::Tick { handle, policy, period, reading } => tick(s, handle, policy, period, reading),
-        Call::Restart { handle, period, reading } => restart(s, handle, period, reading),
+        Call::Tick {
+            handle,
+            policy,
+            period,
+            reading,
+        } => tick(s, handle, policy, period, reading),
+        Call::Restart {
+            handle,
+            period,
+            reading,
+        } => restart(s, handle, period, reading),
     }
 }
 

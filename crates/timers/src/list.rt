@@ -1,7 +1,10 @@
 // The waiting list and the places: a timer is pushed on the list, and a free place is found.
 use heap::Place;
-use state::{First, Life, Set, Timer, Waiting};
-
+use state::First;
+use state::Life;
+use state::Set;
+use state::Timer;
+use state::Waiting;
 ghost use mathlib.Core.Path.{_≡_};
 ghost use Prim.Native.Nat.{_<_};
 ghost use Rattle.heap.specs.Capacity.{cap};

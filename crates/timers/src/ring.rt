@@ -1,7 +1,11 @@
 // The advance: entries are popped while they are due, and the timers that they ring are reported.
-use heap::{Entry, Heap};
-use state::{Handle, Held, Life, Set, Timer};
-
+use heap::Entry;
+use heap::Heap;
+use state::Handle;
+use state::Held;
+use state::Life;
+use state::Set;
+use state::Timer;
 ghost use mathlib.Core.Path.{_≡_};
 ghost use Prim.Native.Nat.{_≤_};
 ghost use lib.ListN.{length};

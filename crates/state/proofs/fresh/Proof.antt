@@ -11,7 +11,7 @@ fresh-requires c κs = search needs
 
 -- src/lib.rt:64:1
 returns : tie.Need-returns
-returns c = ?
+returns c = rw (c .fresh .ensures)
 
 pub fresh-spec : {M : Type 1} → statement M
 fresh-spec = tie.close (tie.spec fresh-requires returns)

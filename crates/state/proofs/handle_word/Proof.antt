@@ -1,20 +1,19 @@
+-- A use number below 2^32 shifted by 32 has 32 zero bits, and a place below 2^16 fits into the lowest 16 of them.
+-- Assumes nothing.
+use Prim.Native.Nat.{_*_, _<_, _^_}
+use native.Mathlib.Nat.{mod-eq-of-lt}
+use native.Mathlib.Omega.{arith}
 use borrow.Author.Needs.{needs}
+use lib.Bits.{or-shifted}
 use Rattle.state.proofs.handle_word.Statement.{statement}
 use Rattle.state.proofs.handle_word.Tie as tie
-use Rattle.state.proofs.handle_word.Reads as reads
-use Rattle.state.proofs.handle_word.Lts as lts
 
--- src/lib.rt:94:7
-cast-result : tie.Need-cast-result
-cast-result c = search needs
-
--- src/lib.rt:94:37
-cast-result-2 : tie.Need-cast-result-2
-cast-result-2 c = search needs
-
--- src/lib.rt:91:1
 returns : tie.Need-returns
-returns c = ?
+returns c =
+    let u = c .before .before .args .handle .uses in
+    let p = c .before .before .args .handle .place .0 in
+    let fits : u * 2 ^ 32 < 2 ^ 64 = omega arith in
+    rw (mod-eq-of-lt fits) (or-shifted u 32 p (omega arith))
 
 pub handle-word-spec : {M : Type 1} → statement M
-handle-word-spec = tie.close (tie.spec cast-result cast-result-2 returns)
+handle-word-spec = tie.close (tie.spec (λ c. search needs) (λ c. search needs) returns)

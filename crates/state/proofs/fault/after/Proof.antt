@@ -26,7 +26,7 @@ returns-2 c = search needs
 
 -- src/fault.rt:78:1
 returns-3 : tie.Need-returns-3
-returns-3 c = ?
+returns-3 c = rw (c .before .w .given .1)
 
 pub after-spec : {M : Type 1} → statement M
 after-spec = tie.close (tie.spec enum-told enum-told-2 enum-known-w returns returns-2 returns-3)
