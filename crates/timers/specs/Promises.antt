@@ -11,8 +11,8 @@ use Rattle.state.specs.declared.Handle.{Handle}
 use Rattle.timers.specs.declared.Call.{Call}
 use Rattle.timers.specs.declared.After.{After}
 use Rattle.timers.specs.declared.Timing as T
-use Rattle.timers.specs.declared.Timing.the-variants as V
-use Rattle.timers.specs.declared.ring.Rung.{Rung}
+use Rattle.timers.specs.declared.Timing.the-variants as Kinds
+use Rattle.timers.specs.declared.rings.Ran.{Ran}
 use Rattle.timers.specs.Rules.{Ring, advancedOf}
 use Rattle.timers.specs.Calls.{Timing, liveAt, resetTo, refusing, addOf, resetOf, cancelOf, drainOf, advanceOf, turnOf, nextWakeOf, pollOf, closeOf, tickAt, restartAt, step, told, toldWith}
 
@@ -58,8 +58,8 @@ abbrev pub Refuses : Set → Refusal → After → Type 0
 Refuses s why r = told r ≡ refusing s why
 
 abbrev pub found : T.Timing → Option Timing
-found V.Dead = none
-found (V.Live w d) = some (record { word = w; due = d })
+found Kinds.Dead = none
+found (Kinds.Live w d) = some (record { word = w; due = d })
 
 abbrev pub Finds : Set → Handle → T.Timing → Type 0
 Finds s h r = found r ≡ liveAt s h
@@ -68,8 +68,8 @@ abbrev pub ResetsTo : Set → Handle → ℕ → ℕ → Set → Type 0
 ResetsTo s h w d r = r ≡ resetTo s h d (record { word = w; due = d })
 
 -- an advance's set, counts and list
-abbrev pub ringOf : Rung → List ℕ → Ring
+abbrev pub ringOf : Ran → List ℕ → Ring
 ringOf r l = record { set = r .set; list = l; reported = r .reported; popped = r .popped }
 
-abbrev pub Rings : Set → ℕ → List ℕ → Rung → List ℕ → Type 0
+abbrev pub Rings : Set → ℕ → List ℕ → Ran → List ℕ → Type 0
 Rings s N l r l′ = ringOf r l′ ≡ advancedOf s N l

@@ -5,7 +5,7 @@
 mod close;
 mod drain;
 mod list;
-mod ring;
+mod rings;
 
 use heap::Place;
 use interval::Policy;
@@ -183,7 +183,7 @@ pub fn advance(s: Set, reading: u64, list: &mut [u64]) -> After
     if list.len() < heap::CAP {
         return refused(s, Refusal::ShortList);
     }
-    let r = ring::advanced(s, reading, list);
+    let r = rings::advanced(s, reading, list);
     let g = r.set;
     After {
         set: g,
@@ -207,7 +207,7 @@ pub fn turn(s: Set, reading: u64, list: &mut [u64]) -> After
     if list.len() < heap::CAP {
         return refused(s, Refusal::ShortList);
     }
-    let r = ring::advanced(drain::drained(s), reading, list);
+    let r = rings::advanced(drain::drained(s), reading, list);
     let g = r.set;
     After {
         set: g,

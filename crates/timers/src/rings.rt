@@ -15,14 +15,14 @@ ghost use Rattle.timers.specs.Rules.{dueBy, rungLife, reports, rungTimer
 ghost use Rattle.timers.specs.Promises.{Rings};
 
 // A set after an advance: how many timers were reported, and how many entries popped.
-pub struct Rung {
+pub struct Ran {
     pub set: Set,
     pub reported: usize,
     pub popped: usize,
 }
 
 // Pops while the head is due. The reports fill the list from its start.
-pub fn advanced(s: Set, reading: u64, list: &mut [u64]) -> Rung
+pub fn advanced(s: Set, reading: u64, list: &mut [u64]) -> Ran
     requires { ⌜ Sound (s .heap) ⌝ }
     requires { ⌜ cap ≤ length (now list) ⌝ }
     ensures { λ r. ⌜ Rings s reading (now (list .entry)) r (now (list .exit)) ⌝ }
@@ -56,7 +56,7 @@ pub fn advanced(s: Set, reading: u64, list: &mut [u64]) -> Rung
         popped += 1;
         left -= 1;
     }
-    Rung {
+    Ran {
         set: Set {
             heap: h,
             timers: ts,
