@@ -17,6 +17,10 @@ pub mod ItemsDown
 pub mod ItemsCalls
 pub mod Ordered
 pub mod SoundKept
+pub mod InUseTest
+pub mod InUseStores
+pub mod InUseWalks
+pub mod InUse
 pub mod Bounds
 pub mod Entries
 pub mod Pops
