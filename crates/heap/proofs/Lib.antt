@@ -28,4 +28,5 @@ pub mod FaultLaws
 pub mod ChainLaws
 pub mod Test
 pub mod FreshSound
+pub mod Guarding
 pub mod NoSecond
