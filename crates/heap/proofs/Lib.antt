@@ -17,6 +17,10 @@ pub mod ItemsDown
 pub mod ItemsCalls
 pub mod Ordered
 pub mod SoundKept
+pub mod InUseTest
+pub mod InUseStores
+pub mod InUseWalks
+pub mod InUse
 pub mod Bounds
 pub mod Entries
 pub mod Pops
@@ -24,4 +28,5 @@ pub mod FaultLaws
 pub mod ChainLaws
 pub mod Test
 pub mod FreshSound
+pub mod Guarding
 pub mod NoSecond

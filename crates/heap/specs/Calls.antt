@@ -8,7 +8,7 @@ use lib.ListN.{replicate}
 use Rattle.theory.specs.Logarithm.{log2}
 use Rattle.refusals.specs.declared.Refusal.the-variants.{Unsound, Full, VacantSlot}
 use Rattle.refusals.specs.Numbers.{numberOf}
-use Rattle.refusals.specs.Answer.{Answer, accepted, refused, refuse, Outcome, kept}
+use Rattle.refusals.specs.Answer.{Answer, accepted, refused, refuse, Outcome, Nothing, kept}
 use Rattle.heap.specs.Capacity.{cap}
 use Rattle.heap.specs.declared.Slot.{Slot}
 use Rattle.heap.specs.declared.Place.{Place}
@@ -17,6 +17,8 @@ use Rattle.heap.specs.declared.SlotState.{SlotState}
 use Rattle.heap.specs.declared.SlotState.the-variants as State
 use Rattle.heap.specs.declared.Heap.{Heap}
 use Rattle.heap.specs.declared.walk.Moved.{Moved}
+use Rattle.heap.specs.declared.Guard.{Guard}
+use Rattle.heap.specs.declared.Guard.the-variants as G
 use Rattle.heap.specs.declared.Pushed.{Pushed}
 use Rattle.heap.specs.declared.Pushed.the-variants as P
 use Rattle.heap.specs.declared.AfterPush.{AfterPush}
@@ -45,6 +47,10 @@ heightOf n = log2 n
 -- a call on a heap begins with the test: an unsound heap is refused with 1, and handed back
 unfoldable pub guarded : {A : Type 0} → Heap → Outcome Heap A → Outcome Heap A
 guarded h o = cond (consistentOf h) o (kept h (numberOf Unsound))
+
+-- what the test says to a call
+unfoldable pub guardOf : Heap → Answer Nothing
+guardOf h = cond (consistentOf h) (accepted tt) (refuse Unsound)
 
 -- push answers the slot and the swaps
 abbrev pub pushGives : Slot → Moved → Outcome Heap (Slot × ℕ)
@@ -92,6 +98,10 @@ abbrev pub peekOf : Heap → Answer (Option Entry)
 peekOf h = cond (consistentOf h) (peekSound h) (refuse Unsound)
 
 -- what the code's answers say
+abbrev pub saidGuard : Guard → Answer Nothing
+saidGuard G.Sound = accepted tt
+saidGuard (G.Refused r) = refused (numberOf r)
+
 abbrev pub saidPush : Pushed → Answer (Slot × ℕ)
 saidPush (P.Done s n) = accepted (s, n)
 saidPush (P.Refused r) = refused (numberOf r)

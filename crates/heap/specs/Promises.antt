@@ -9,12 +9,13 @@ use Rattle.heap.specs.declared.Place.{Place}
 use Rattle.heap.specs.declared.Entry.{Entry}
 use Rattle.heap.specs.declared.Heap.{Heap}
 use Rattle.heap.specs.declared.fault.Fault.{Fault}
+use Rattle.heap.specs.declared.Guard.{Guard}
 use Rattle.heap.specs.declared.AfterPush.{AfterPush}
 use Rattle.heap.specs.declared.AfterRemove.{AfterRemove}
 use Rattle.heap.specs.declared.Peeked.{Peeked}
 use Rattle.heap.specs.Rules.{before}
 use Rattle.heap.specs.Faults.{faultOf, consistentOf}
-use Rattle.heap.specs.Calls.{freshOf, heightOf, pushOf, removeOf, popOf, peekOf, pushSound, removeSound, popSound, peekSound, saidPeek, toldPush, toldRemove}
+use Rattle.heap.specs.Calls.{freshOf, heightOf, guardOf, saidGuard, pushOf, removeOf, popOf, peekOf, pushSound, removeSound, popSound, peekSound, saidPeek, toldPush, toldRemove}
 
 abbrev pub Capacity : ℕ → Type 0
 Capacity r = r ≡ cap
@@ -34,6 +35,10 @@ Faults h r = r ≡ faultOf h
 
 abbrev pub Consistent : Heap → Bool → Type 0
 Consistent h r = r ≡ consistentOf h
+
+-- a guard lets a call through, or gives its refusal
+abbrev pub Guards : Heap → Guard → Type 0
+Guards h r = saidGuard r ≡ guardOf h
 
 abbrev pub Pushes : Heap → ℕ → ℕ → Place → AfterPush → Type 0
 Pushes h at g place r = toldPush r ≡ pushOf h at g place

@@ -14,7 +14,7 @@ ghost use Prim.Native.Nat.{_<_, _≤_};
 ghost use Rattle.heap.specs.Capacity.{cap};
 ghost use Rattle.heap.specs.Rules.{putAt, takenOf, addedOf, vacatedOf, filledOf};
 ghost use Rattle.heap.specs.Sound.{Sound, SlotsIn};
-ghost use Rattle.heap.specs.Promises.{Capacity, Before, Heights, Fresh, Consistent, Pushes, Removes, Pops, Peeks, PushesSound, RemovesSound, PopsSound, PeeksSound};
+ghost use Rattle.heap.specs.Promises.{Capacity, Before, Heights, Fresh, Consistent, Guards, Pushes, Removes, Pops, Peeks, PushesSound, RemovesSound, PopsSound, PeeksSound};
 
 // How many entries a heap holds at most: `cap` of specs/Capacity.antt.
 pub const CAP: usize = 64;
@@ -53,6 +53,12 @@ pub struct Heap {
     pub slots: [SlabSlot; CAP],
     pub made: usize,
     pub free: Slot,
+}
+
+// What the test of a heap says to a call.
+pub enum Guard {
+    Sound,
+    Refused(Refusal),
 }
 
 // What a push answers.
@@ -149,57 +155,64 @@ pub fn consistent(h: Heap) -> bool
     }
 }
 
+// Every call on a heap begins here: whether it may be made, or why not.
+fn guarded(h: Heap) -> Guard
+    ensures { λ r. ⌜ Guards h r ⌝ }
+{
+    if consistent(h) {
+        Guard::Sound
+    } else {
+        Guard::Refused(Refusal::Unsound)
+    }
+}
+
 // Adds an entry. Refuses an unsound heap, then a full one.
 pub fn push(h: Heap, at: u64, generation: u32, place: Place) -> AfterPush
     ensures { λ r. ⌜ Pushes h at generation place r ⌝ }
 {
-    if consistent(h) {
-        push_sound(h, at, generation, place)
-    } else {
-        AfterPush {
+    if let Guard::Refused(why) = guarded(h) {
+        return AfterPush {
             heap: h,
-            answer: Pushed::Refused(Refusal::Unsound),
-        }
+            answer: Pushed::Refused(why),
+        };
     }
+    push_sound(h, at, generation, place)
 }
 
 // Removes the entry of a slot. Refuses an unsound heap, then a slot that was never made or is empty.
 pub fn remove(h: Heap, slot: Slot) -> AfterRemove
     ensures { λ r. ⌜ Removes h slot r ⌝ }
 {
-    if consistent(h) {
-        remove_sound(h, slot)
-    } else {
-        AfterRemove {
+    if let Guard::Refused(why) = guarded(h) {
+        return AfterRemove {
             heap: h,
-            answer: Removed::Refused(Refusal::Unsound),
-        }
+            answer: Removed::Refused(why),
+        };
     }
+    remove_sound(h, slot)
 }
 
 // Takes the head off, if there is one. Refuses an unsound heap.
 pub fn pop(h: Heap) -> AfterRemove
     ensures { λ r. ⌜ Pops h r ⌝ }
 {
-    if consistent(h) {
-        pop_sound(h)
-    } else {
-        AfterRemove {
+    if let Guard::Refused(why) = guarded(h) {
+        return AfterRemove {
             heap: h,
-            answer: Removed::Refused(Refusal::Unsound),
-        }
+            answer: Removed::Refused(why),
+        };
     }
+    pop_sound(h)
 }
 
 // The head, if there is one. Refuses an unsound heap.
 pub fn peek(h: Heap) -> Peeked
     ensures { λ r. ⌜ Peeks h r ⌝ }
 {
-    if consistent(h) {
-        peek_sound(h)
-    } else {
-        Peeked::Refused(Refusal::Unsound)
+    if let Guard::Refused(why) = guarded(h) {
+        return Peeked::Refused(why);
     }
+    peek_sound(h)
 }
 
 // Adds an entry to a sound heap.

@@ -1,29 +1,35 @@
--- `push` is right: where the test says yes the heap is sound, so that `push_sound` may be called; where it says no the heap is refused.
+-- Where the guard lets the call through the heap is sound, so that `push_sound` may be called; where it does not the heap is refused.
 -- Assumes nothing.
-use mathlib.Core.Path.{_≡_, sym, _∙_}
+use mathlib.Core.Path.{_≡_}
 use borrow.Author.Needs.{needs}
 use lib.ListN.{length}
 use Rattle.theory.proofs.Stores.{unmapped}
 use Rattle.heap.specs.Capacity.{cap}
 use Rattle.heap.specs.Calls.{guarded}
+use Rattle.heap.proofs.Guarding.{passed, stopped}
 use Rattle.heap.proofs.Test.{consistent-sound}
 use Rattle.heap.proofs.push.Statement.{statement}
 use Rattle.heap.proofs.push.Tie as tie
 
-push-sound-requires : tie.Need-push-sound-requires
-push-sound-requires c κs =
-    let h = c .before .before .args .h in
-    let n : length (h .entries) ≡ cap = search (needs, unmapped) in
-    let m : length (h .slots) ≡ cap = search (needs, unmapped) in
-    consistent-sound h n m (sym (c .before .consistent .ensures) ∙ c .if1 .taken)
-
 returns : tie.Need-returns
 unfolding guarded
-returns c = rw (sym (c .before .before .consistent .ensures) ∙ c .before .if1 .taken) (c .push-sound .ensures)
+returns c =
+    let h = c .before .before .before .before .args .h in
+    let why = c .before .why .given .0 .0 in
+    let q = stopped h why (rw (c .before .why .given .1) at (c .before .before .before .guarded .ensures)) in
+    rw (q .0, q .1)
+
+push-sound-requires : tie.Need-push-sound-requires
+push-sound-requires c κs =
+    let h = c .before .before .before .args .h in
+    let n : length (h .entries) ≡ cap = search (needs, unmapped) in
+    let m : length (h .slots) ≡ cap = search (needs, unmapped) in
+    consistent-sound h n m (passed h (rw (c .enum-told .given .1) at (c .before .before .guarded .ensures)))
 
 returns-2 : tie.Need-returns-2
 unfolding guarded
-returns-2 c = rw (sym (c .before .consistent .ensures) ∙ c .if1 .left)
+returns-2 c =
+    rw (passed _ (rw (c .before .enum-told .given .1) at (c .before .before .before .guarded .ensures))) (c .push-sound .ensures)
 
 pub push-spec : {M : Type 1} → statement M
-push-spec = tie.close (tie.spec (λ c κs. search needs) push-sound-requires returns returns-2)
+push-spec = tie.close (tie.spec (λ c κs. search needs) (λ c. search needs) returns (λ c. search needs) push-sound-requires returns-2)

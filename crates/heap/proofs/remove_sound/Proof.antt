@@ -15,11 +15,15 @@ use Rattle.heap.proofs.remove_sound.Tie as tie
 
 returns : tie.Need-returns
 unfolding removeSound
-returns c = simp (le-ltb _ _ (c .if1 .taken))
+returns c = simp (le-ltb (c .before .before .args .slot .0) (c .before .before .args .t1 .made) (omega arith))
+
+-- past the first test the slot was made
+made : (c : tie.Else1) → c .before .before .args .slot .0 < c .before .before .args .t1 .made
+made c = omega arith
 
 -- the position that the slot names is one of the heap's
 within : (c : tie.After-struct-known2) → c .before .before .st .given .0 .0 .0 < c .before .before .before .before .before .before .before .args .t1 .len
-within c = full-back _ (c .before .before .before .before .before .before .before .pre) _ _ (c .before .before .before .before .before .if1 .left) (c .before .before .st .given .1) .0
+within c = full-back _ (c .before .before .before .before .before .before .before .pre) _ _ (made (c .before .before .before .before .before)) (c .before .before .st .given .1) .0
 
 element-copy-out-e : tie.Need-element-copy-out-e
 element-copy-out-e c = omega (arith, within c, c .before .before .before .before .before .before .before .pre .len-in)
@@ -33,11 +37,11 @@ filled-requires c κs = (
 returns-2 : tie.Need-returns-2
 unfolding removeSound removedOf
 returns-2 c =
-    rw (lt-ltb _ _ (c .before .before .before .before .before .before .before .before .before .if1 .left), c .before .before .before .before .before .before .st .given .1, c .before .filled .ensures, c .before .before .vacated .ensures)
+    rw (lt-ltb _ _ (made (c .before .before .before .before .before .before .before .before .before)), c .before .before .before .before .before .before .st .given .1, c .before .filled .ensures, c .before .before .vacated .ensures)
 
 returns-3 : tie.Need-returns-3
 unfolding removeSound
-returns-3 c = rw (lt-ltb _ _ (c .before .before .before .if1 .left), c .enum-told .given .1)
+returns-3 c = rw (lt-ltb _ _ (made (c .before .before .before)), c .enum-told .given .1)
 
 pub remove-sound-spec : {M : Type 1} → statement M
 remove-sound-spec =
