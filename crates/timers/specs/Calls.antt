@@ -9,7 +9,7 @@ use lib.ListN.{length}
 use Rattle.refusals.specs.declared.Refusal.{Refusal}
 use Rattle.refusals.specs.declared.Refusal.the-variants.{Unsound, Closed, DeadHandle, Full, ShortList, NotFired}
 use Rattle.refusals.specs.Numbers.{numberOf}
-use Rattle.refusals.specs.Answer.{Answer, accepted, refused, refuse, Outcome, kept}
+use Rattle.refusals.specs.Answer.{Answer, accepted, refused, refuse, Outcome, Nothing, kept}
 use Rattle.heap.specs.Capacity.{cap}
 use Rattle.heap.specs.declared.Entry.{Entry}
 use Rattle.heap.specs.Calls.{peekSound}
@@ -25,6 +25,8 @@ use Rattle.state.specs.State.{timerAt}
 use Rattle.state.specs.Faults.{soundOf}
 use Rattle.timers.specs.declared.Call.{Call}
 use Rattle.timers.specs.declared.Call.the-variants as C
+use Rattle.timers.specs.declared.Guard.{Guard}
+use Rattle.timers.specs.declared.Guard.the-variants as G
 use Rattle.timers.specs.declared.Reply.{Reply}
 use Rattle.timers.specs.declared.Reply.the-variants as R
 use Rattle.timers.specs.declared.After.{After}
@@ -63,6 +65,13 @@ guarded s k o = cond (soundOf s) o (refusing k Unsound)
 -- then a closed set is refused with 2
 abbrev pub opened : {S : Type 0} → Set → S → Outcome S Value → Outcome S Value
 opened s k o = cond (s .closed) (refusing k Closed) o
+
+-- what the two tests say to a call
+unfoldable pub guardOf : Set → Answer Nothing
+guardOf s = cond (soundOf s) (accepted tt) (refuse Unsound)
+
+unfoldable pub openOf : Set → Answer Nothing
+openOf s = cond (soundOf s) (cond (s .closed) (refuse Closed) (accepted tt)) (refuse Unsound)
 
 -- the word and the deadline of a live timer
 pub record Timing : Type 0 where
@@ -184,7 +193,11 @@ step s C.Close l = with-list l (closeOf s)
 step s (C.Tick h p period N) l = with-list l (tickAt s h p period N)
 step s (C.Restart h period N) l = with-list l (restartAt s h period N)
 
--- what the code's replies say
+-- what the code's guards and replies say
+abbrev pub saidGuard : Guard → Answer Nothing
+saidGuard G.Open = accepted tt
+saidGuard (G.Refused r) = refused (numberOf r)
+
 abbrev pub said : Reply → Answer Value
 said (R.Added h) = accepted (handle h)
 said R.Done = accepted nothing

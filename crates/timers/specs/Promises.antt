@@ -9,12 +9,13 @@ use Rattle.interval.specs.declared.Policy.{Policy}
 use Rattle.state.specs.declared.Set.{Set}
 use Rattle.state.specs.declared.Handle.{Handle}
 use Rattle.timers.specs.declared.Call.{Call}
+use Rattle.timers.specs.declared.Guard.{Guard}
 use Rattle.timers.specs.declared.After.{After}
 use Rattle.timers.specs.declared.Timing as T
 use Rattle.timers.specs.declared.Timing.the-variants as Kinds
 use Rattle.timers.specs.declared.rings.Ran.{Ran}
 use Rattle.timers.specs.Rules.{Ring, advancedOf}
-use Rattle.timers.specs.Calls.{Timing, liveAt, resetTo, refusing, addOf, resetOf, cancelOf, drainOf, advanceOf, turnOf, nextWakeOf, pollOf, closeOf, tickAt, restartAt, step, told, toldWith}
+use Rattle.timers.specs.Calls.{Timing, saidGuard, guardOf, openOf, liveAt, resetTo, refusing, addOf, resetOf, cancelOf, drainOf, advanceOf, turnOf, nextWakeOf, pollOf, closeOf, tickAt, restartAt, step, told, toldWith}
 
 abbrev pub Adds : Set → ℕ → After → Type 0
 Adds s d r = told r ≡ addOf s d
@@ -53,6 +54,12 @@ abbrev pub Performs : Set → Call → List ℕ → After → List ℕ → Type 
 Performs s c l r l′ = toldWith r l′ ≡ step s c l
 
 -- and the functions inside
+
+abbrev pub Guards : Set → Guard → Type 0
+Guards s r = saidGuard r ≡ guardOf s
+
+abbrev pub Opens : Set → Guard → Type 0
+Opens s r = saidGuard r ≡ openOf s
 
 abbrev pub Refuses : Set → Refusal → After → Type 0
 Refuses s why r = told r ≡ refusing s why

@@ -15,7 +15,7 @@ use state::Handle;
 use state::Life;
 use state::Set;
 use word::Polled;
-ghost use Rattle.timers.specs.Promises.{Adds, Resets, Cancels, Drains, Advances, Turns, Wakes, Polls, Closes, Ticks, Restarts, Performs, Refuses, Finds, ResetsTo};
+ghost use Rattle.timers.specs.Promises.{Adds, Resets, Cancels, Drains, Advances, Turns, Wakes, Polls, Closes, Ticks, Restarts, Performs, Guards, Opens, Refuses, Finds, ResetsTo};
 ghost use Prim.Native.Nat.{_<_};
 ghost use Rattle.heap.specs.Capacity.{cap};
 
@@ -80,21 +80,48 @@ pub struct After {
     pub reply: Reply,
 }
 
+// What the tests of a set say to a call.
+pub enum Guard {
+    Open,
+    Refused(Refusal),
+}
+
 // What a handle names: a live timer's word and deadline, or nothing.
 pub enum Timing {
     Dead,
     Live { word: u32, due: u64 },
 }
 
+// Every call begins here: whether it may be made on a set, or why not.
+fn guarded(s: Set) -> Guard
+    ensures { λ r. ⌜ Guards s r ⌝ }
+{
+    if state::sound(s) {
+        Guard::Open
+    } else {
+        Guard::Refused(Refusal::Unsound)
+    }
+}
+
+// A call that a closed set refuses begins here.
+fn opened(s: Set) -> Guard
+    ensures { λ r. ⌜ Opens s r ⌝ }
+{
+    if let Guard::Refused(why) = guarded(s) {
+        return Guard::Refused(why);
+    }
+    if s.closed {
+        return Guard::Refused(Refusal::Closed);
+    }
+    Guard::Open
+}
+
 // Adds a timer at the lowest free place.
 pub fn add(s: Set, due: u64) -> After
     ensures { λ r. ⌜ Adds s due r ⌝ }
 {
-    if !state::sound(s) {
-        return refused(s, Refusal::Unsound);
-    }
-    if s.closed {
-        return refused(s, Refusal::Closed);
+    if let Guard::Refused(why) = opened(s) {
+        return refused(s, why);
     }
     match list::lowest_free(s) {
         list::Spot::Nowhere => refused(s, Refusal::Full),
@@ -116,11 +143,8 @@ pub fn add(s: Set, due: u64) -> After
 pub fn reset(s: Set, handle: Handle, due: u64) -> After
     ensures { λ r. ⌜ Resets s handle due r ⌝ }
 {
-    if !state::sound(s) {
-        return refused(s, Refusal::Unsound);
-    }
-    if s.closed {
-        return refused(s, Refusal::Closed);
+    if let Guard::Refused(why) = opened(s) {
+        return refused(s, why);
     }
     match timing(s, handle) {
         Timing::Dead => refused(s, Refusal::DeadHandle),
@@ -135,11 +159,8 @@ pub fn reset(s: Set, handle: Handle, due: u64) -> After
 pub fn cancel(s: Set, handle: Handle) -> After
     ensures { λ r. ⌜ Cancels s handle r ⌝ }
 {
-    if !state::sound(s) {
-        return refused(s, Refusal::Unsound);
-    }
-    if s.closed {
-        return refused(s, Refusal::Closed);
+    if let Guard::Refused(why) = opened(s) {
+        return refused(s, why);
     }
     match timing(s, handle) {
         Timing::Dead => refused(s, Refusal::DeadHandle),
@@ -158,11 +179,8 @@ pub fn cancel(s: Set, handle: Handle) -> After
 pub fn drain(s: Set) -> After
     ensures { λ r. ⌜ Drains s r ⌝ }
 {
-    if !state::sound(s) {
-        return refused(s, Refusal::Unsound);
-    }
-    if s.closed {
-        return refused(s, Refusal::Closed);
+    if let Guard::Refused(why) = opened(s) {
+        return refused(s, why);
     }
     After {
         set: drain::drained(s),
@@ -174,11 +192,8 @@ pub fn drain(s: Set) -> After
 pub fn advance(s: Set, reading: u64, list: &mut [u64]) -> After
     ensures { λ r. ⌜ Advances s reading (now (list .entry)) r (now (list .exit)) ⌝ }
 {
-    if !state::sound(s) {
-        return refused(s, Refusal::Unsound);
-    }
-    if s.closed {
-        return refused(s, Refusal::Closed);
+    if let Guard::Refused(why) = opened(s) {
+        return refused(s, why);
     }
     if list.len() < heap::CAP {
         return refused(s, Refusal::ShortList);
@@ -198,11 +213,8 @@ pub fn advance(s: Set, reading: u64, list: &mut [u64]) -> After
 pub fn turn(s: Set, reading: u64, list: &mut [u64]) -> After
     ensures { λ r. ⌜ Turns s reading (now (list .entry)) r (now (list .exit)) ⌝ }
 {
-    if !state::sound(s) {
-        return refused(s, Refusal::Unsound);
-    }
-    if s.closed {
-        return refused(s, Refusal::Closed);
+    if let Guard::Refused(why) = opened(s) {
+        return refused(s, why);
     }
     if list.len() < heap::CAP {
         return refused(s, Refusal::ShortList);
@@ -222,8 +234,8 @@ pub fn turn(s: Set, reading: u64, list: &mut [u64]) -> After
 pub fn next_wake(s: Set) -> After
     ensures { λ r. ⌜ Wakes s r ⌝ }
 {
-    if !state::sound(s) {
-        return refused(s, Refusal::Unsound);
+    if let Guard::Refused(why) = guarded(s) {
+        return refused(s, why);
     }
     let h = s.heap;
     match heap::peek_sound(h) {
@@ -246,8 +258,8 @@ pub fn next_wake(s: Set) -> After
 pub fn poll(s: Set, handle: Handle) -> After
     ensures { λ r. ⌜ Polls s handle r ⌝ }
 {
-    if !state::sound(s) {
-        return refused(s, Refusal::Unsound);
+    if let Guard::Refused(why) = guarded(s) {
+        return refused(s, why);
     }
     match timing(s, handle) {
         Timing::Dead => refused(s, Refusal::DeadHandle),
@@ -262,11 +274,8 @@ pub fn poll(s: Set, handle: Handle) -> After
 pub fn close(s: Set) -> After
     ensures { λ r. ⌜ Closes s r ⌝ }
 {
-    if !state::sound(s) {
-        return refused(s, Refusal::Unsound);
-    }
-    if s.closed {
-        return refused(s, Refusal::Closed);
+    if let Guard::Refused(why) = opened(s) {
+        return refused(s, why);
     }
     After {
         set: close::closed(s),
@@ -278,11 +287,8 @@ pub fn close(s: Set) -> After
 pub fn tick(s: Set, handle: Handle, policy: Policy, period: u64, reading: u64) -> After
     ensures { λ r. ⌜ Ticks s handle policy period reading r ⌝ }
 {
-    if !state::sound(s) {
-        return refused(s, Refusal::Unsound);
-    }
-    if s.closed {
-        return refused(s, Refusal::Closed);
+    if let Guard::Refused(why) = opened(s) {
+        return refused(s, why);
     }
     match timing(s, handle) {
         Timing::Dead => refused(s, Refusal::DeadHandle),
@@ -305,11 +311,8 @@ pub fn tick(s: Set, handle: Handle, policy: Policy, period: u64, reading: u64) -
 pub fn restart(s: Set, handle: Handle, period: u64, reading: u64) -> After
     ensures { λ r. ⌜ Restarts s handle period reading r ⌝ }
 {
-    if !state::sound(s) {
-        return refused(s, Refusal::Unsound);
-    }
-    if s.closed {
-        return refused(s, Refusal::Closed);
+    if let Guard::Refused(why) = opened(s) {
+        return refused(s, why);
     }
     match timing(s, handle) {
         Timing::Dead => refused(s, Refusal::DeadHandle),
