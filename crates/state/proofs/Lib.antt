@@ -1,0 +1,6 @@
+pub mod PlaceTest
+pub mod Parts
+pub mod Test
+pub mod FreshSound
+pub mod Handles
+pub mod NoSecond

@@ -1,0 +1,30 @@
+-- No public function on the set has a second answer.
+-- Assumes nothing.
+use mathlib.Core.Bool.{Bool}
+use Prim.Native.Nat.{ℕ}
+use Rattle.theory.specs.Promise.{NoSecond}
+use Rattle.theory.proofs.Promise.{by-rule, plain-apart}
+use Rattle.state.specs.declared.First.{First}
+use Rattle.state.specs.declared.Set.{Set}
+use Rattle.state.specs.declared.fault.Fault.{Fault}
+use Rattle.state.specs.State.{isWaiting, headAfter, freshOf, handleWord}
+use Rattle.state.specs.Faults.{faultOf, soundOf}
+use Rattle.state.specs.Promises.{Fresh, Faults, IsSound, Words, Waits, Follows}
+
+pub fresh-no-second : NoSecond (λ (q : Unit {0}) (r : Set). Fresh r)
+fresh-no-second = by-rule (λ (r : Set). r) (λ (q : Unit {0}). freshOf) plain-apart
+
+pub first-fault-no-second : NoSecond Faults
+first-fault-no-second = by-rule (λ (r : Fault). r) faultOf plain-apart
+
+pub sound-no-second : NoSecond IsSound
+sound-no-second = by-rule (λ (r : Bool). r) soundOf plain-apart
+
+pub handle-word-no-second : NoSecond Words
+handle-word-no-second = by-rule (λ (r : ℕ). r) handleWord plain-apart
+
+pub waits-no-second : NoSecond Waits
+waits-no-second = by-rule (λ (r : Bool). r) isWaiting plain-apart
+
+pub after-no-second : NoSecond Follows
+after-no-second = by-rule (λ (r : First). r) headAfter plain-apart
