@@ -1,1 +1,9 @@
 pub mod Guarding
+pub mod Ties
+pub mod Popping
+pub mod RungSound
+pub mod AdvancedSound
+pub mod AdvancedList
+pub mod Closing
+pub mod Unlisting
+pub mod ClosedSound
