@@ -1,4 +1,5 @@
 pub mod Guarding
+pub mod DrainLaws
 pub mod Ties
 pub mod Popping
 pub mod RungSound

@@ -21,6 +21,7 @@ pub fn touched(s: Set, p: usize, life: Life) -> Set
     requires { ⌜ p < cap ⌝ }
     ensures { λ r. ⌜ r ≡ touchedOf s p life ⌝ }
 {
+    let place = Place(p as u16);
     let h = s.heap;
     let f = s.first;
     let mut ts = s.timers;
@@ -50,7 +51,7 @@ pub fn touched(s: Set, p: usize, life: Life) -> Set
     Set {
         heap: h,
         timers: ts,
-        first: First::At(Place(p as u16)),
+        first: First::At(place),
         closed: s.closed,
     }
 }
