@@ -1,5 +1,5 @@
 -- Two heaps that differ only in room not in use give the same answers, and go on differing only there: the test says the same of
--- both (`consistent-in-use` of proofs/InUseTest.antt), and where it says yes the calls read and store in use only.
+-- both (`consistent-in-use` of proofs/InUseTest.antt), and where it says yes the calls read in use only, and store alike.
 -- Assumes nothing.
 use mathlib.Core.Path.{_≡_, refl, _∙_, ap}
 use mathlib.Core.Option.{some}
@@ -19,9 +19,10 @@ use Rattle.heap.specs.declared.SlotState.the-variants as State
 use Rattle.heap.specs.declared.Heap.{Heap}
 use Rattle.heap.specs.Rules.{entryAt, stateAt}
 use Rattle.heap.specs.Sound.{Sound}
-use Rattle.heap.specs.Calls.{guarded, pushSound, removeBy, removeSound, popSound, peekSound, pushOf, removeOf, popOf, peekOf}
+use Rattle.heap.specs.Calls.{guardOf, guarded, pushSound, removeBy, removeSound, popSound, peekSound, pushOf, removeOf, popOf, peekOf}
 use Rattle.heap.proofs.SoundFacts.{full-back}
 use Rattle.heap.proofs.Slab.{sound-slab}
+use Rattle.heap.proofs.Guarding.{guarded-is}
 use Rattle.heap.proofs.Test.{sound-test, consistent-sound, sound-consistent}
 use Rattle.heap.proofs.InUseTest.{consistent-in-use}
 use Rattle.heap.proofs.InUseStores.{Twins}
@@ -84,10 +85,10 @@ module _ (g h : Heap) (r : Twins g h) where
 
   -- a call begins with the test, and goes on where it says yes
   guarded-in-use : {A : Type 0} {o q : Outcome Heap A} → (Sound h → SameOutcome o q) → SameOutcome (guarded g o) (guarded h q)
-  unfolding guarded
-  guarded-in-use f =
-      choose-ref SameOutcome (consistent-in-use g h (r .same)) (sound-test h (r .right .entries-long) (r .right .slots-long)) f
-      (λ _. kept-in-use (numberOf Unsound))
+  guarded-in-use {o = o} {q} f =
+      rw (guarded-is g o, guarded-is h q)
+      (choose-ref SameOutcome (consistent-in-use g h (r .same)) (sound-test h (r .right .entries-long) (r .right .slots-long)) f
+      (λ _. kept-in-use (numberOf Unsound)))
 
   -- push
   pub push-in-use : (at n : ℕ) (place : Place) → SameOutcome (pushOf g at n place) (pushOf h at n place)
@@ -103,4 +104,5 @@ module _ (g h : Heap) (r : Twins g h) where
 
   -- peek
   pub peek-in-use : peekOf g ≡ peekOf h
+  unfolding guardOf
   peek-in-use = rw (consistent-in-use g h (r .same), peek-sound-in-use)

@@ -17,6 +17,7 @@ pub mod ItemsDown
 pub mod ItemsCalls
 pub mod Ordered
 pub mod SoundKept
+pub mod Guarding
 pub mod InUseTest
 pub mod InUseStores
 pub mod InUseWalks
@@ -28,5 +29,4 @@ pub mod FaultLaws
 pub mod ChainLaws
 pub mod Test
 pub mod FreshSound
-pub mod Guarding
 pub mod NoSecond

@@ -24,8 +24,8 @@ use Rattle.heap.specs.declared.Peeked.{Peeked}
 use Rattle.heap.specs.declared.Peeked.the-variants as K
 use Rattle.heap.specs.Rules.{before}
 use Rattle.heap.specs.Faults.{faultOf, consistentOf}
-use Rattle.heap.specs.Calls.{freshOf, heightOf, Off, pushOf, removeOf, popOf, peekOf, saidPush, saidRemove, saidPeek, toldPush, toldRemove}
-use Rattle.heap.specs.Promises.{Capacity, Before, Fresh, Heights, Faults, Consistent, Pushes, Removes, Pops, Peeks}
+use Rattle.heap.specs.Calls.{freshOf, heightOf, Off, pushOf, removeOf, popOf, peekOf, pushSound, removeSound, popSound, peekSound, saidPush, saidRemove, saidPeek, toldPush, toldRemove}
+use Rattle.heap.specs.Promises.{Capacity, Before, Fresh, Heights, Faults, Consistent, Pushes, Removes, Pops, Peeks, PushesSound, RemovesSound, PopsSound, PeeksSound}
 
 -- the answer of a push that says this
 abbrev pushedBy : Answer (Slot × ℕ) → Pushed
@@ -109,3 +109,16 @@ pop-no-second = by-rule toldRemove popOf remove-apart
 
 pub peek-no-second : NoSecond Peeks
 peek-no-second = by-rule saidPeek peekOf peek-apart
+
+-- nor have the functions that do the work on a sound heap
+pub push-sound-no-second : NoSecond (λ (q : Heap × ℕ × ℕ × Place) (r : AfterPush). PushesSound (q .0) (q .1) (q .2) (q .3) r)
+push-sound-no-second = by-rule toldPush (λ (q : Heap × ℕ × ℕ × Place). pushSound (q .0) (q .1) (q .2) (q .3)) push-apart
+
+pub remove-sound-no-second : NoSecond (λ (q : Heap × Slot) (r : AfterRemove). RemovesSound (q .0) (q .1) r)
+remove-sound-no-second = by-rule toldRemove (λ (q : Heap × Slot). removeSound (q .0) (q .1)) remove-apart
+
+pub pop-sound-no-second : NoSecond PopsSound
+pop-sound-no-second = by-rule toldRemove popSound remove-apart
+
+pub peek-sound-no-second : NoSecond PeeksSound
+peek-sound-no-second = by-rule saidPeek peekSound peek-apart

@@ -43,7 +43,7 @@ alike-both a b c r s = record {
   next = λ k. s .next k ∙ r .next k;
 }
 
--- a slot that was made is empty where it is not full
+-- heaps that agree on which slots were made and which are full agree on which are empty
 pub empty-same : (h g : Heap) (k : ℕ) → ltb k (g .made) ≡ ltb k (h .made) → fullAt g k ≡ fullAt h k → emptyAt g k ≡ emptyAt h k
 unfolding emptyAt fullAt
 empty-same h g k m e = ap₂ (λ (x y : Bool). x && not y) m e

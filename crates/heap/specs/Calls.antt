@@ -44,13 +44,17 @@ freshOf = record {
 abbrev pub heightOf : ℕ → ℕ
 heightOf n = log2 n
 
--- a call on a heap begins with the test: an unsound heap is refused with 1, and handed back
-unfoldable pub guarded : {A : Type 0} → Heap → Outcome Heap A → Outcome Heap A
-guarded h o = cond (consistentOf h) o (kept h (numberOf Unsound))
-
--- what the test says to a call
+-- what the test says to a call: an unsound heap is refused with 1
 unfoldable pub guardOf : Heap → Answer Nothing
 guardOf h = cond (consistentOf h) (accepted tt) (refuse Unsound)
+
+-- a call begins with the test: what it would do where it is let through, else the heap handed back with the refusal
+abbrev pub guardedBy : {A : Type 0} → Heap → Outcome Heap A → Answer Nothing → Outcome Heap A
+guardedBy h o (accepted v) = o
+guardedBy h o (refused n) = kept h n
+
+abbrev pub guarded : {A : Type 0} → Heap → Outcome Heap A → Outcome Heap A
+guarded h o = guardedBy h o (guardOf h)
 
 -- push answers the slot and the swaps
 abbrev pub pushGives : Slot → Moved → Outcome Heap (Slot × ℕ)
@@ -94,8 +98,12 @@ removeOf h s = guarded h (removeSound h s)
 abbrev pub popOf : Heap → Outcome Heap Off
 popOf h = guarded h (popSound h)
 
+abbrev pub peekBy : Answer (Option Entry) → Answer Nothing → Answer (Option Entry)
+peekBy a (accepted v) = a
+peekBy a (refused n) = refused n
+
 abbrev pub peekOf : Heap → Answer (Option Entry)
-peekOf h = cond (consistentOf h) (peekSound h) (refuse Unsound)
+peekOf h = peekBy (peekSound h) (guardOf h)
 
 -- what the code's answers say
 abbrev pub saidGuard : Guard → Answer Nothing

@@ -43,7 +43,7 @@ items h = take (h .len) (h .entries)
 abbrev pub key : Entry → ℕ
 key e = e .at
 
--- smaller: strictly the earlier deadline. Nothing else compares entries
+-- smaller: strictly the earlier deadline. Every rule that compares entries goes by this
 abbrev pub before : Entry → Entry → Bool
 before a b = ltb (key a) (key b)
 

@@ -2,9 +2,10 @@
 // heap.rs with fixed room. The entries lie in an array; a slab of slots says at which position each one stands, so that a slot
 // number names its entry for as long as the entry is in the heap.
 //
-// The calls are `fresh`, `push`, `remove`, `pop`, `peek`, `consistent` and `height`. Each call on a heap tests it first and
-// refuses an unsound one; `push_sound`, `remove_sound`, `pop_sound` and `peek_sound` do the work for a caller that has made the
-// test itself. What an entry's place and generation mean is the caller's affair.
+// `fresh`, `push`, `remove`, `pop` and `peek` are the calls; `consistent` tests a heap, `fault::first_fault` says what is wrong
+// with it, and `height` bounds the swaps. Push, remove, pop and peek test the heap first and refuse an unsound one; `push_sound`,
+// `remove_sound`, `pop_sound` and `peek_sound` do the work for a caller that has made the test itself. What an entry's place and
+// generation mean is the caller's affair.
 pub mod fault;
 mod walk;
 
@@ -155,7 +156,7 @@ pub fn consistent(h: Heap) -> bool
     }
 }
 
-// Every call on a heap begins here: whether it may be made, or why not.
+// Push, remove, pop and peek begin here: whether the call may be made, or why not.
 fn guarded(h: Heap) -> Guard
     ensures { λ r. ⌜ Guards h r ⌝ }
 {

@@ -5,17 +5,13 @@ use borrow.Author.Needs.{needs}
 use lib.ListN.{length}
 use Rattle.theory.proofs.Stores.{unmapped}
 use Rattle.heap.specs.Capacity.{cap}
-use Rattle.heap.proofs.Guarding.{passed, stopped}
+use Rattle.heap.proofs.Guarding.{passed}
 use Rattle.heap.proofs.Test.{consistent-sound}
 use Rattle.heap.proofs.peek.Statement.{statement}
 use Rattle.heap.proofs.peek.Tie as tie
 
 returns : tie.Need-returns
-returns c =
-    let h = c .before .before .before .before .args .h in
-    let why = c .before .why .given .0 .0 in
-    let q = stopped h why (rw (c .before .why .given .1) at (c .before .before .before .guarded .ensures)) in
-    rw (q .0, q .1)
+returns c = rw (← (rw (c .before .why .given .1) at (c .before .before .before .guarded .ensures)))
 
 peek-sound-requires : tie.Need-peek-sound-requires
 peek-sound-requires c κs =
@@ -25,8 +21,7 @@ peek-sound-requires c κs =
     consistent-sound h n m (passed h (rw (c .enum-told .given .1) at (c .before .before .guarded .ensures)))
 
 returns-2 : tie.Need-returns-2
-returns-2 c =
-    rw (passed _ (rw (c .before .enum-told .given .1) at (c .before .before .before .guarded .ensures))) (c .peek-sound .ensures)
+returns-2 c = rw (← (rw (c .before .enum-told .given .1) at (c .before .before .before .guarded .ensures))) (c .peek-sound .ensures)
 
 pub peek-spec : {M : Type 1} → statement M
 peek-spec = tie.close (tie.spec (λ c κs. search needs) (λ c. search needs) returns (λ c. search needs) peek-sound-requires returns-2)
