@@ -4,3 +4,4 @@ pub mod Test
 pub mod FreshSound
 pub mod Handles
 pub mod NoSecond
+pub mod InUse

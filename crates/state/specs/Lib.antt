@@ -2,3 +2,4 @@ pub mod State
 pub mod Faults
 pub mod Sound
 pub mod Promises
+pub mod InUse

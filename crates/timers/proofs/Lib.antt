@@ -23,3 +23,8 @@ pub mod AdvancedList
 pub mod Closing
 pub mod Unlisting
 pub mod ClosedSound
+pub mod StepSound
+pub mod InUseDrain
+pub mod InUseRings
+pub mod InUseGuards
+pub mod InUse

@@ -2,7 +2,7 @@
 -- Assumes nothing.
 use mathlib.Core.Bool.{Bool, true, false, not, cond, _&&_}
 use mathlib.Core.Option.{Option, none, some}
-use mathlib.Core.List.{List}
+use mathlib.Core.List.{List, [], _∷_}
 use Prim.Native.Nat.{ℕ}
 use lib.Dec.{ltb, leb, eqb}
 use lib.ListN.{length}
@@ -192,6 +192,11 @@ step s (C.Poll h) l = with-list l (pollOf s h)
 step s C.Close l = with-list l (closeOf s)
 step s (C.Tick h p period N) l = with-list l (tickAt s h p period N)
 step s (C.Restart h period N) l = with-list l (restartAt s h period N)
+
+-- the set after a list of calls, each with the list that was lent for it, the first call first
+abbrev pub after : List (Call × List ℕ) → Set → Set
+after [] s = s
+after (c ∷ cs) s = after cs (step s (c .0) (c .1) .state .set)
 
 -- what the code's guards and replies say
 abbrev pub saidGuard : Guard → Answer Nothing
