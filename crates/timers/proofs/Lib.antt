@@ -28,3 +28,9 @@ pub mod InUseDrain
 pub mod InUseRings
 pub mod InUseGuards
 pub mod InUse
+pub mod Leads
+pub mod Rows
+pub mod RowsTold
+pub mod Table
+pub mod Keeping
+pub mod NoSecond

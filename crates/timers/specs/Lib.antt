@@ -1,3 +1,4 @@
 pub mod Rules
 pub mod Calls
 pub mod Promises
+pub mod Table
