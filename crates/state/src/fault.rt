@@ -8,11 +8,11 @@ use crate::Waiting;
 use heap::Entry;
 use heap::SlotState;
 ghost use mathlib.Core.Path.{_≡_};
-ghost use Prim.Native.Nat.{_≤_};
+ghost use mathlib.Core.Bool.{_&&_};
 ghost use Rattle.theory.specs.Counting.{count};
 ghost use Rattle.heap.specs.Capacity.{cap};
 ghost use Rattle.heap.specs.Sound as HeapSound;
-ghost use Rattle.state.specs.Faults.{heapFault, waitsAt, listScan, lower as lowerOf, idleIn, lifeOk, entryFits, firstPlace, entryScan, scanned};
+ghost use Rattle.state.specs.Faults.{heapFault, waitsAt, listScan, lower as lowerOf, idleIn, lifeOk, closedOk, entryFits, firstPlace, entryScan, scanned};
 ghost use Rattle.state.specs.Promises.{Faults, Waits, Follows};
 
 // How many generations there are: 2^30.
@@ -193,6 +193,19 @@ fn life_ok(closed: bool, t: Timer) -> bool
     }
 }
 
+// Whether a timer's parts go together, and it neither waits nor names a slot where the set is closed.
+fn timer_ok(closed: bool, t: Timer) -> bool
+    ensures { λ r. ⌜ r ≡ lifeOk closed t (t .life) && closedOk closed t ⌝ }
+{
+    if !life_ok(closed, t) {
+        return false;
+    }
+    if closed {
+        return idle(t);
+    }
+    true
+}
+
 // The first place whose timer's parts do not go together, that waits or names a slot in a closed set, or that names a slot whose
 // entry is not its own.
 fn place_scan(s: Set) -> Scan
@@ -204,13 +217,8 @@ fn place_scan(s: Set) -> Scan
     let mut p: usize = 0;
     while p < heap::CAP {
         let t = s.timers[p];
-        if !life_ok(closed, t) {
+        if !timer_ok(closed, t) {
             return Scan::At(p);
-        }
-        if closed {
-            if !idle(t) {
-                return Scan::At(p);
-            }
         }
         let d = t.held;
         if let Held::At(slot) = d {

@@ -1,5 +1,7 @@
 pub mod Guarding
 pub mod DrainLaws
+pub mod RingLaws
+pub mod CloseLaws
 pub mod Change
 pub mod Lives
 pub mod Freed

@@ -45,8 +45,9 @@ pub fn advanced(s: Set, reading: u64, list: &mut [u64]) -> Ran
             let t = ts[p];
             let l = t.life;
             if rings(l, e.generation) {
+                let place = e.place;
                 list[reported] = state::handle_word(Handle {
-                    place: e.place,
+                    place,
                     uses: t.uses,
                 });
                 reported += 1;

@@ -1,114 +1,88 @@
+-- `fault::place_scan` is right: at each turn the scan of the places to go finds what the whole scan finds. A full slot of a sound
+-- heap names a position of it, so the entry is read in range.
+-- Assumes nothing.
+use mathlib.Core.Path.{_≡_, sym, _∙_}
+use mathlib.Core.Logic.{⊎-elim}
+use mathlib.Core.Bool.{Bool}
+use Prim.Native.Nat.{_≤_, _-_}
+use native.Mathlib.Nat.{sub-zero}
+use native.Mathlib.Omega.{arith}
+use borrow.Author.Needs.{needs}
+use borrow.Author.Tests.{not-true, not-false}
+use Rattle.heap.specs.Capacity.{cap}
+use Rattle.heap.proofs.SoundFacts.{full-back}
+use Rattle.state.specs.State.{timerAt}
+use Rattle.state.specs.Faults.{heldOk, placeOk, firstPlace}
+use Rattle.state.proofs.ScanLaws.{held-none, held-past, held-empty, held-other, held-own, placesFrom, place-parts, place-held, places-go, places-here, places-done}
 use Rattle.state.proofs.fault.place_scan.Statement.{statement}
 use Rattle.state.proofs.fault.place_scan.Tie as tie
-use Rattle.state.proofs.fault.place_scan.Reads as reads
-use Rattle.state.proofs.fault.place_scan.Lts as lts
-use Rattle.state.proofs.fault.idle.Reads as idle-reads
-use Rattle.state.proofs.fault.life_ok.Reads as life-ok-reads
 
 abbrev Inv-loop : tie.InvT-loop
-Inv-loop s h closed p₀ p = ?
+Inv-loop s h closed p₀ p = (p ≤ cap) × (placesFrom s p ≡ firstPlace s)
 
 abbrev μ-loop : tie.MeasureT-loop
-μ-loop s h closed p₀ p = ?
+μ-loop s h closed p₀ p = cap - p
 
--- src/fault.rt:200:5
 loop-holds : tie.Need-loop-holds Inv-loop μ-loop
-loop-holds c = ?
+unfolding placesFrom firstPlace
+loop-holds c = (search needs, simp sub-zero)
 
--- src/fault.rt:201:17
-mul-t : tie.Need-mul-t Inv-loop μ-loop
-mul-t c = ?
-
--- src/fault.rt:201:17
-element-copy-out-t : tie.Need-element-copy-out-t Inv-loop μ-loop
-element-copy-out-t c = ?
-
--- src/fault.rt:202:13
-life-ok-requires : tie.Need-life-ok-requires Inv-loop μ-loop
-life-ok-requires c κs = ?
-
--- src/fault.rt:203:13
 returns : tie.Need-returns Inv-loop μ-loop
-returns c = ?
+returns c =
+    let s = c .before .before .before .before .before .before .args .t1 in
+    let l = c .before .before .before .before .loop in
+    sym (places-here s (l .p) (omega arith) (place-parts s (l .p) (sym (c .before .timer-ok .ensures) ∙ not-true _ (c .if1 .taken)))) ∙ l .inv .1
 
--- src/fault.rt:206:17
-idle-requires : tie.Need-idle-requires Inv-loop μ-loop
-idle-requires c κs = ?
+-- where the timer's parts go together, what it names decides
+decides : (c : tie.Else1 Inv-loop μ-loop) {b : Bool}
+    → heldOk (c .before .before .before .before .before .before .args .t1 .heap) (c .before .before .before .before .loop .p) (timerAt (c .before .before .before .before .before .before .args .t1) (c .before .before .before .before .loop .p) .held) ≡ b
+    → placeOk (c .before .before .before .before .before .before .args .t1) (c .before .before .before .before .loop .p) ≡ b
+decides c e = place-held (c .before .before .before .before .before .before .args .t1) (c .before .before .before .before .loop .p) (sym (c .before .timer-ok .ensures) ∙ not-false _ (c .if1 .left)) e
 
--- src/fault.rt:207:17
 returns-2 : tie.Need-returns-2 Inv-loop μ-loop
-returns-2 c = ?
+returns-2 c =
+    let s = c .before .before .before .before .before .before .before .before .before .before .before .args .t1 in
+    let l = c .before .before .before .before .before .before .before .before .before .loop in
+    sym (places-here s (l .p) (omega arith) (decides (c .before .before .before .before .before) (held-past (s .heap) (l .p) (c .before .before .before .d .given .1) (c .if2 .taken)))) ∙ l .inv .1
 
--- src/fault.rt:211:25
-enum-known-d : tie.Need-enum-known-d Inv-loop μ-loop
-enum-known-d c = ?
-
--- src/fault.rt:212:21
-cast-q : tie.Need-cast-q Inv-loop μ-loop
-cast-q c = ?
-
--- src/fault.rt:214:17
-returns-3 : tie.Need-returns-3 Inv-loop μ-loop
-returns-3 c = ?
-
--- src/fault.rt:216:21
-mul-x : tie.Need-mul-x Inv-loop μ-loop
-mul-x c = ?
-
--- src/fault.rt:216:21
 element-copy-out-x : tie.Need-element-copy-out-x Inv-loop μ-loop
-element-copy-out-x c = ?
+element-copy-out-x c = omega (arith, c .before .before .before .before .before .before .before .before .before .before .before .pre .made-in)
 
--- src/fault.rt:218:33
-enum-known-st : tie.Need-enum-known-st Inv-loop μ-loop
-enum-known-st c = ?
+returns-3 : tie.Need-returns-3 Inv-loop μ-loop
+returns-3 c =
+    let s = c .before .before .before .before .before .before .before .before .before .before .before .before .before .before .args .t1 in
+    let l = c .before .before .before .before .before .before .before .before .before .before .before .before .loop in
+    sym (places-here s (l .p) (omega arith) (decides (c .before .before .before .before .before .before .before .before) (held-empty (s .heap) (l .p) (c .before .before .before .before .before .before .d .given .1) (c .before .before .before .if2 .left) (c .enum-told .given .1))))
+    ∙ l .inv .1
 
--- src/fault.rt:219:17
-enum-told : tie.Need-enum-told Inv-loop μ-loop
-enum-told c = ?
-
--- src/fault.rt:219:17
-returns-4 : tie.Need-returns-4 Inv-loop μ-loop
-returns-4 c = ?
-
--- src/fault.rt:221:21
-cast-i : tie.Need-cast-i Inv-loop μ-loop
-cast-i c = ?
-
--- src/fault.rt:222:21
-mul-e : tie.Need-mul-e Inv-loop μ-loop
-mul-e c = ?
-
--- src/fault.rt:222:21
 element-copy-out-e : tie.Need-element-copy-out-e Inv-loop μ-loop
-element-copy-out-e c = ?
+element-copy-out-e c =
+    let b = full-back (c .before .before .before .before .before .before .before .before .before .before .before .before .before .before .before .before .args .t1 .heap) (c .before .before .before .before .before .before .before .before .before .before .before .before .before .before .before .before .pre) _ _ (c .before .before .before .before .before .if2 .left) (c .before .before .st .given .1) in
+    omega (arith, b .0, c .before .before .before .before .before .before .before .before .before .before .before .before .before .before .before .before .pre .len-in)
 
--- src/fault.rt:223:21
-cast-o : tie.Need-cast-o Inv-loop μ-loop
-cast-o c = ?
+returns-4 : tie.Need-returns-4 Inv-loop μ-loop
+returns-4 c =
+    let s = c .before .before .before .before .before .before .before .before .before .before .before .before .before .before .before .before .before .before .before .args .t1 in
+    let l = c .before .before .before .before .before .before .before .before .before .before .before .before .before .before .before .before .before .loop in
+    sym (places-here s (l .p) (omega arith) (decides (c .before .before .before .before .before .before .before .before .before .before .before .before .before) (held-other (s .heap) (l .p) (c .before .before .before .before .before .before .before .before .before .before .before .d .given .1) (c .before .before .before .before .before .before .before .before .if2 .left) (c .before .before .before .before .before .st .given .1) (c .if3 .taken))))
+    ∙ l .inv .1
 
--- src/fault.rt:225:17
-returns-5 : tie.Need-returns-5 Inv-loop μ-loop
-returns-5 c = ?
-
-enum-told-2 : tie.Need-enum-told-2 Inv-loop μ-loop
-enum-told-2 c = ?
-
--- src/fault.rt:228:9
-add-p : tie.Need-add-p Inv-loop μ-loop
-add-p c = ?
-
--- src/fault.rt:200:5
-loop-less : tie.Need-loop-less Inv-loop μ-loop
-loop-less c = ?
-
--- src/fault.rt:200:5
 loop-again : tie.Need-loop-again Inv-loop μ-loop
-loop-again c = ?
+loop-again c =
+    let s = c .before .before .before .before .before .before .before .args .t1 in
+    let l = c .before .before .before .before .before .loop in (
+      omega arith,
+      places-go s (l .p) (omega arith)
+          (decides (c .before)
+          (⊎-elim
+          (λ w. held-own (s .heap) (l .p) (w .1 .given .1) (w .4 .left) (w .7 .given .1) (w .12 .left))
+          (λ w. held-none (s .heap) (l .p) (w .1 .given .1))
+          (c .match .came)))
+          ∙ l .inv .1,
+    )
 
--- src/fault.rt:193:1
-returns-6 : tie.Need-returns-6 Inv-loop μ-loop
-returns-6 c = ?
+returns-5 : tie.Need-returns-5 Inv-loop μ-loop
+returns-5 c = sym (places-done (c .before .before .before .args .t1) (c .before .loop .p) (c .loop-test .left)) ∙ c .before .loop .inv .1
 
 pub place-scan-spec : {M : Type 1} → statement M
 place-scan-spec =
@@ -117,27 +91,25 @@ place-scan-spec =
     Inv-loop
     μ-loop
     loop-holds
-    mul-t
-    element-copy-out-t
-    life-ok-requires
+    (λ c. search needs)
+    (λ c. search needs)
+    (λ c κs. search needs)
     returns
-    idle-requires
+    (λ c. search needs)
+    (λ c. search needs)
     returns-2
-    enum-known-d
-    cast-q
-    returns-3
-    mul-x
+    (λ c. search needs)
     element-copy-out-x
-    enum-known-st
-    enum-told
-    returns-4
-    cast-i
-    mul-e
+    (λ c. search needs)
+    (λ c. search needs)
+    returns-3
+    (λ c. search needs)
+    (λ c. search needs)
     element-copy-out-e
-    cast-o
-    returns-5
-    enum-told-2
-    add-p
-    loop-less
+    (λ c. search needs)
+    returns-4
+    (λ c. search needs)
+    (λ c. search needs)
+    (λ c. search needs)
     loop-again
-    returns-6)
+    returns-5)
