@@ -36,3 +36,13 @@ pub mod RowsTold
 pub mod Table
 pub mod Keeping
 pub mod NoSecond
+pub mod Naming
+pub mod Places
+pub mod Still
+pub mod ByHandle
+pub mod Past
+pub mod PastLaws
+pub mod CallCases
+pub mod ByHandleCalls
+pub mod ByHandleSteps
+pub mod Ever

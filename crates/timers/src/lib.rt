@@ -2,10 +2,10 @@
 //
 // Every call takes any set. It tests the set's soundness first, then whether it may be made; a call that is refused hands back the
 // set, and leaves the lent list as it was. `perform` makes a call by its name.
-mod close;
-mod drain;
 mod list;
 mod rings;
+mod shut;
+mod updates;
 
 use heap::Place;
 use interval::Policy;
@@ -183,7 +183,7 @@ pub fn drain(s: Set) -> After
         return refused(s, why);
     }
     After {
-        set: drain::drained(s),
+        set: updates::drained(s),
         reply: Reply::Done,
     }
 }
@@ -219,7 +219,7 @@ pub fn turn(s: Set, reading: u64, list: &mut [u64]) -> After
     if list.len() < heap::CAP {
         return refused(s, Refusal::ShortList);
     }
-    let r = rings::advanced(drain::drained(s), reading, list);
+    let r = rings::advanced(updates::drained(s), reading, list);
     let g = r.set;
     After {
         set: g,
@@ -278,7 +278,7 @@ pub fn close(s: Set) -> After
         return refused(s, why);
     }
     After {
-        set: close::closed(s),
+        set: shut::closed(s),
         reply: Reply::Done,
     }
 }

@@ -15,8 +15,8 @@ use Rattle.state.specs.declared.Set.{Set}
 use Rattle.state.specs.State.{noTimer}
 use Rattle.timers.specs.Rules.{unlistedOf, unlistFrom}
 use Rattle.timers.proofs.CloseLaws.{unlist-goes, unlist-ends, unlist-done, unlist-out}
-use Rattle.timers.proofs.close.unlisted.Statement.{statement}
-use Rattle.timers.proofs.close.unlisted.Tie as tie
+use Rattle.timers.proofs.shut.unlisted.Statement.{statement}
+use Rattle.timers.proofs.shut.unlisted.Tie as tie
 
 -- emptying the list of s has come to g, with at most `left` timers to take off
 record Unlisting (s g : Set) (left : ℕ) : Type 0 where

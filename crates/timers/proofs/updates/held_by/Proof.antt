@@ -1,8 +1,8 @@
 -- By what the push says, the answer is `heldBy`.
 -- Assumes nothing.
 use borrow.Author.Needs.{needs}
-use Rattle.timers.proofs.drain.held_by.Statement.{statement}
-use Rattle.timers.proofs.drain.held_by.Tie as tie
+use Rattle.timers.proofs.updates.held_by.Statement.{statement}
+use Rattle.timers.proofs.updates.held_by.Tie as tie
 
 returns : tie.Need-returns
 returns c = rw (c .before .answer .given .1)

@@ -7,8 +7,8 @@ use Rattle.state.specs.declared.Set.{Set}
 use Rattle.timers.specs.Rules.{closedOf}
 use Rattle.timers.proofs.CloseLaws.{unlist-heap}
 use borrow.Author.Needs.{needs}
-use Rattle.timers.proofs.close.closed.Statement.{statement}
-use Rattle.timers.proofs.close.closed.Tie as tie
+use Rattle.timers.proofs.shut.closed.Statement.{statement}
+use Rattle.timers.proofs.shut.closed.Tie as tie
 
 emptied-requires : tie.Need-emptied-requires
 emptied-requires c κs =

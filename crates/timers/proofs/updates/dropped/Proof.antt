@@ -2,8 +2,8 @@
 -- Assumes nothing.
 use mathlib.Core.Path.{ap}
 use borrow.Author.Needs.{needs}
-use Rattle.timers.proofs.drain.dropped.Statement.{statement}
-use Rattle.timers.proofs.drain.dropped.Tie as tie
+use Rattle.timers.proofs.updates.dropped.Statement.{statement}
+use Rattle.timers.proofs.updates.dropped.Tie as tie
 
 returns-2 : tie.Need-returns-2
 returns-2 c = rw (c .before .before .before .held .given .1) (ap (λ o. o .state) (c .before .remove-sound .ensures))

@@ -8,8 +8,8 @@ use Rattle.theory.proofs.Stores.{unmapped}
 use Rattle.heap.specs.Capacity.{cap}
 use Rattle.state.specs.State.{timerAt}
 use Rattle.timers.proofs.DrainLaws.{dropped-sound, settled-by, settled-live, settled-free, settled-retired, settled-out}
-use Rattle.timers.proofs.drain.settled.Statement.{statement}
-use Rattle.timers.proofs.drain.settled.Tie as tie
+use Rattle.timers.proofs.updates.settled.Statement.{statement}
+use Rattle.timers.proofs.updates.settled.Tie as tie
 
 returns : tie.Need-returns
 returns c =

@@ -2,8 +2,8 @@
 -- Assumes nothing.
 use borrow.Author.Needs.{needs}
 use borrow.Author.Tests.{eq-eqb, ne-eqb}
-use Rattle.timers.proofs.drain.freed.Statement.{statement}
-use Rattle.timers.proofs.drain.freed.Tie as tie
+use Rattle.timers.proofs.updates.freed.Statement.{statement}
+use Rattle.timers.proofs.updates.freed.Tie as tie
 
 returns : tie.Need-returns
 returns c = simp (eq-eqb _ _ (c .if1 .taken))

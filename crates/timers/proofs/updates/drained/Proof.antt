@@ -10,8 +10,8 @@ use Rattle.heap.specs.Sound.{Sound}
 use Rattle.state.specs.declared.Set.{Set}
 use Rattle.timers.specs.Rules.{drainFrom}
 use Rattle.timers.proofs.DrainLaws.{settled-heap, drain-goes, drain-ends}
-use Rattle.timers.proofs.drain.drained.Statement.{statement}
-use Rattle.timers.proofs.drain.drained.Tie as tie
+use Rattle.timers.proofs.updates.drained.Statement.{statement}
+use Rattle.timers.proofs.updates.drained.Tie as tie
 
 -- the set g with so many turns to go, in a drain of s
 record Draining (s g : Set) (left : ℕ) : Type 0 where

@@ -1,8 +1,8 @@
 -- By whose place it is: a word gets the invalid bit, and where there is none nothing changes.
 -- Assumes nothing.
 use borrow.Author.Needs.{needs}
-use Rattle.timers.proofs.close.marked.Statement.{statement}
-use Rattle.timers.proofs.close.marked.Tie as tie
+use Rattle.timers.proofs.shut.marked.Statement.{statement}
+use Rattle.timers.proofs.shut.marked.Tie as tie
 
 returns-2 : tie.Need-returns-2
 returns-2 c = rw (c .before .before .life .given .1, c .with-invalid .ensures)

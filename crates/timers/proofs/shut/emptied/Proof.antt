@@ -15,8 +15,8 @@ use Rattle.heap.specs.Calls.{Off}
 use Rattle.state.specs.declared.Set.{Set}
 use Rattle.timers.specs.Rules.{poppedOf, emptyFrom}
 use Rattle.timers.proofs.CloseLaws.{empty-goes, empty-done, popped-out, popped-heap, popped-timers}
-use Rattle.timers.proofs.close.emptied.Statement.{statement}
-use Rattle.timers.proofs.close.emptied.Tie as tie
+use Rattle.timers.proofs.shut.emptied.Statement.{statement}
+use Rattle.timers.proofs.shut.emptied.Tie as tie
 
 -- emptying the heap of s has come to g, with `left` entries to pop
 record Emptying (s g : Set) (left : ℕ) : Type 0 where
