@@ -146,7 +146,7 @@ pub fn reset(s: Set, handle: Handle, due: u64) -> After
     if let Guard::Refused(why) = opened(s) {
         return refused(s, why);
     }
-    match timing(s, handle) {
+    match named(s, handle) {
         Timing::Dead => refused(s, Refusal::DeadHandle),
         Timing::Live { word, due: _ } => After {
             set: reset_to(s, handle, word, due),
@@ -162,7 +162,7 @@ pub fn cancel(s: Set, handle: Handle) -> After
     if let Guard::Refused(why) = opened(s) {
         return refused(s, why);
     }
-    match timing(s, handle) {
+    match named(s, handle) {
         Timing::Dead => refused(s, Refusal::DeadHandle),
         Timing::Live { word, due: _ } => {
             let p = handle.place.0 as usize;
@@ -261,7 +261,7 @@ pub fn poll(s: Set, handle: Handle) -> After
     if let Guard::Refused(why) = guarded(s) {
         return refused(s, why);
     }
-    match timing(s, handle) {
+    match named(s, handle) {
         Timing::Dead => refused(s, Refusal::DeadHandle),
         Timing::Live { word, due: _ } => After {
             set: s,
@@ -290,7 +290,7 @@ pub fn tick(s: Set, handle: Handle, policy: Policy, period: u64, reading: u64) -
     if let Guard::Refused(why) = opened(s) {
         return refused(s, why);
     }
-    match timing(s, handle) {
+    match named(s, handle) {
         Timing::Dead => refused(s, Refusal::DeadHandle),
         Timing::Live { word, due } => {
             if !word::fired(word) {
@@ -314,7 +314,7 @@ pub fn restart(s: Set, handle: Handle, period: u64, reading: u64) -> After
     if let Guard::Refused(why) = opened(s) {
         return refused(s, why);
     }
-    match timing(s, handle) {
+    match named(s, handle) {
         Timing::Dead => refused(s, Refusal::DeadHandle),
         Timing::Live { word, due: _ } => match interval::restarted(period, reading) {
             Time::At(next) => After {
@@ -355,7 +355,7 @@ pub fn perform(s: Set, call: Call, list: &mut [u64]) -> After
 }
 
 // What a handle names in a set.
-fn timing(s: Set, handle: Handle) -> Timing
+fn named(s: Set, handle: Handle) -> Timing
     ensures { λ r. ⌜ Finds s handle r ⌝ }
 {
     let p = handle.place.0 as usize;

@@ -87,10 +87,10 @@ turned c =
     let h = popped-heap (c .before .before .before) in
     ⊎-elim
     (λ w.
-        ⊎-elim
-        (λ x. rw (w .5, w .6, w .7, w .4 .ensures, x .3, x .4, x .2 .ensures, h) (sym (rung-told r (sym (w .2 .ensures) ∙ x .0 .taken))))
-        (λ x. rw (w .5, w .6, w .7, w .4 .ensures, x .1, x .2, h) (sym (rung-quiet r (sym (w .2 .ensures) ∙ x .0 .left))))
-        (w .3 .came))
+    ⊎-elim
+    (λ x. rw (w .5, w .6, w .7, w .4 .ensures, x .3, x .4, x .2 .ensures, h) (sym (rung-told r (sym (w .2 .ensures) ∙ x .0 .taken))))
+    (λ x. rw (w .5, w .6, w .7, w .4 .ensures, x .1, x .2, h) (sym (rung-quiet r (sym (w .2 .ensures) ∙ x .0 .left))))
+    (w .3 .came))
     (λ w. rw (w .1, w .2, w .3, h) (sym (rung-out r (omega (arith, w .0 .left, c .before .before .before .before .before .before .before .before .loop .inv .timers-long)))))
     (c .if2 .came)
 
