@@ -30,7 +30,7 @@ use Rattle.timers.specs.declared.Guard.the-variants as G
 use Rattle.timers.specs.declared.Reply.{Reply}
 use Rattle.timers.specs.declared.Reply.the-variants as R
 use Rattle.timers.specs.declared.After.{After}
-use Rattle.timers.specs.Rules.{touchedOf, lowestFree, drainedOf, Ring, advancedOf, closedOf}
+use Rattle.moves.specs.Rules.{touchedOf, lowestFree, drainedOf, Ring, advancedOf, closedOf}
 
 -- the values that the rules name
 pub data Value : Type 0 where

@@ -1,4 +1,2 @@
-pub mod Rules
 pub mod Calls
 pub mod Promises
-pub mod Table

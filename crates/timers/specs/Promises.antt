@@ -13,8 +13,6 @@ use Rattle.timers.specs.declared.Guard.{Guard}
 use Rattle.timers.specs.declared.After.{After}
 use Rattle.timers.specs.declared.Timing as T
 use Rattle.timers.specs.declared.Timing.the-variants as Kinds
-use Rattle.timers.specs.declared.rings.Ran.{Ran}
-use Rattle.timers.specs.Rules.{Ring, advancedOf}
 use Rattle.timers.specs.Calls.{Timing, saidGuard, guardOf, openOf, liveAt, resetTo, refusing, addOf, resetOf, cancelOf, drainOf, advanceOf, turnOf, nextWakeOf, pollOf, closeOf, tickAt, restartAt, step, told, toldWith}
 
 abbrev pub Adds : Set → ℕ → After → Type 0
@@ -73,10 +71,3 @@ Finds s h r = found r ≡ liveAt s h
 
 abbrev pub ResetsTo : Set → Handle → ℕ → ℕ → Set → Type 0
 ResetsTo s h w d r = r ≡ resetTo s h d (record { word = w; due = d })
-
--- an advance's set, counts and list
-abbrev pub ringOf : Ran → List ℕ → Ring
-ringOf r l = record { set = r .set; list = l; reported = r .reported; popped = r .popped }
-
-abbrev pub Rings : Set → ℕ → List ℕ → Ran → List ℕ → Type 0
-Rings s N l r l′ = ringOf r l′ ≡ advancedOf s N l

@@ -2,11 +2,6 @@
 //
 // Every call takes any set. It tests the set's soundness first, then whether it may be made; a call that is refused hands back the
 // set, and leaves the lent list as it was. `perform` makes a call by its name.
-mod list;
-mod rings;
-mod shut;
-mod updates;
-
 use heap::Place;
 use interval::Policy;
 use refusals::Refusal;
@@ -123,11 +118,11 @@ pub fn add(s: Set, due: u64) -> After
     if let Guard::Refused(why) = opened(s) {
         return refused(s, why);
     }
-    match list::lowest_free(s) {
-        list::Spot::Nowhere => refused(s, Refusal::Full),
-        list::Spot::At(p) => {
+    match moves::list::lowest_free(s) {
+        moves::list::Spot::Nowhere => refused(s, Refusal::Full),
+        moves::list::Spot::At(p) => {
             let t = s.timers[p];
-            let g = list::touched(s, p, Life::Live { word: 0, due });
+            let g = moves::list::touched(s, p, Life::Live { word: 0, due });
             After {
                 set: g,
                 reply: Reply::Added(Handle {
@@ -166,7 +161,7 @@ pub fn cancel(s: Set, handle: Handle) -> After
         Timing::Dead => refused(s, Refusal::DeadHandle),
         Timing::Live { word, due: _ } => {
             let p = handle.place.0 as usize;
-            let g = list::touched(s, p, Life::Cancelled { word });
+            let g = moves::list::touched(s, p, Life::Cancelled { word });
             After {
                 set: g,
                 reply: Reply::Done,
@@ -183,7 +178,7 @@ pub fn drain(s: Set) -> After
         return refused(s, why);
     }
     After {
-        set: updates::drained(s),
+        set: moves::updates::drained(s),
         reply: Reply::Done,
     }
 }
@@ -198,7 +193,7 @@ pub fn advance(s: Set, reading: u64, list: &mut [u64]) -> After
     if list.len() < heap::CAP {
         return refused(s, Refusal::ShortList);
     }
-    let r = rings::advanced(s, reading, list);
+    let r = moves::rings::advanced(s, reading, list);
     let g = r.set;
     After {
         set: g,
@@ -219,7 +214,7 @@ pub fn turn(s: Set, reading: u64, list: &mut [u64]) -> After
     if list.len() < heap::CAP {
         return refused(s, Refusal::ShortList);
     }
-    let r = rings::advanced(updates::drained(s), reading, list);
+    let r = moves::rings::advanced(moves::updates::drained(s), reading, list);
     let g = r.set;
     After {
         set: g,
@@ -278,7 +273,7 @@ pub fn close(s: Set) -> After
         return refused(s, why);
     }
     After {
-        set: shut::closed(s),
+        set: moves::shut::closed(s),
         reply: Reply::Done,
     }
 }
@@ -382,7 +377,7 @@ fn reset_to(s: Set, handle: Handle, word: u32, due: u64) -> Set
 {
     let p = handle.place.0 as usize;
     let w = word::after_reset(word);
-    list::touched(s, p, Life::Live { word: w, due })
+    moves::list::touched(s, p, Life::Live { word: w, due })
 }
 
 // A call refused: the set as it was handed in.

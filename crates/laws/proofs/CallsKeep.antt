@@ -1,0 +1,172 @@
+-- What the rules keep of a set, every call keeps: a call that is refused hands the set back, and one that is not makes one of the
+-- rules' changes.
+-- Assumes nothing.
+use mathlib.Core.Path.{_≡_, refl}
+use mathlib.Core.Bool.{Bool, true, false, cond}
+use mathlib.Core.Option.{Option, none, some}
+use mathlib.Core.List.{List}
+use Prim.Native.Nat.{ℕ}
+use lib.Dec.{leb}
+use lib.ListN.{length}
+use Rattle.refusals.specs.declared.Refusal.the-variants.{Unsound, Closed, ShortList, NotFired}
+use Rattle.refusals.specs.Answer.{Answer, accepted, refused, Outcome}
+use Rattle.heap.specs.Capacity.{cap}
+use Rattle.heap.specs.Calls.{peekSound}
+use Rattle.word.specs.Rules as Word
+use Rattle.interval.specs.declared.Policy.{Policy}
+use Rattle.interval.specs.Rules.{tickOf, restartOf}
+use Rattle.state.specs.declared.Life.the-variants.{Live, Cancelled}
+use Rattle.state.specs.declared.Set.{Set}
+use Rattle.state.specs.declared.Handle.{Handle}
+use Rattle.state.specs.Faults.{soundOf}
+use Rattle.timers.specs.declared.Call.{Call}
+use Rattle.timers.specs.declared.Call.the-variants as C
+use Rattle.moves.specs.Rules.{touchedOf, lowestFree, drainedOf, advancedOf, closedOf}
+use Rattle.timers.specs.Calls.{Value, nothing, wake, polled, Lent, gives, refusing, guarded, opened, Timing, liveAt, alive, addedAt, addOf, resetTo, resetOf, cancelOf, drainOf, lent, rang, roomy, advanceOf, turnOf, wakeBy, nextWakeOf, pollBy, pollOf, closeOf, tickedBy, ticked, tickAt, restartedBy, restartAt, step}
+
+-- what is to be shown of a set for every call to keep it
+pub record Kept (P : Set → Type 0) (s : Set) : Type 0 where
+  pub now : P s
+  pub adds : (p d : ℕ) → s .closed ≡ false → lowestFree s ≡ some p → P (touchedOf s p (Live 0 d))
+  pub resets : (h : Handle) (t : Timing) (d : ℕ) → s .closed ≡ false → liveAt s h ≡ some t → P (resetTo s h d t)
+  pub cancels : (h : Handle) (t : Timing) → s .closed ≡ false → liveAt s h ≡ some t → P (touchedOf s (h .place .0) (Cancelled (t .word)))
+
+-- and for those that drain, advance and close
+pub record KeptOn (P : Set → Type 0) (s : Set) : Type 0 where
+  pub drains : s .closed ≡ false → P (drainedOf s)
+  pub advances : (N : ℕ) (l : List ℕ) → s .closed ≡ false → P (advancedOf s N l .set)
+  pub turns : (N : ℕ) (l : List ℕ) → s .closed ≡ false → P (advancedOf (drainedOf s) N l .set)
+  pub closes : s .closed ≡ false → P (closedOf s)
+
+-- a call that is not refused is one on an open set
+guarded-keeps : {S : Type 0} (Q : S → Type 0) (s : Set) (k : S) → Q k → (o : Outcome S Value) → (s .closed ≡ false → Q (o .state))
+    → Q (guarded s k (opened s k o) .state)
+unfolding guarded
+guarded-keeps {S} Q s k now o f = go (soundOf s) (s .closed) refl
+  where
+    go : (a b : Bool) → s .closed ≡ b → Q ((cond a (cond b (refusing k Closed) o) (refusing k Unsound)) .state)
+    go true true e = now
+    go true false e = f e
+    go false b e = now
+
+module _ (P : Set → Type 0) (s : Set) (k : Kept P s) where
+  alive-keeps : (h : Handle) (f : Timing → Outcome Set Value) → ((t : Timing) → liveAt s h ≡ some t → P (f t .state))
+      → P (alive s (liveAt s h) f .state)
+  alive-keeps h f g = go (liveAt s h) refl
+    where
+      go : (x : Option Timing) → liveAt s h ≡ x → P (alive s x f .state)
+      go none e = k .now
+      go (some t) e = g t e
+
+  -- a call on a timer that is live
+  live-keeps : (h : Handle) (f : Timing → Outcome Set Value) → ((t : Timing) → s .closed ≡ false → liveAt s h ≡ some t → P (f t .state))
+      → P (guarded s s (opened s s (alive s (liveAt s h) f)) .state)
+  live-keeps h f g = guarded-keeps P s s (k .now) (alive s (liveAt s h) f) (λ c. alive-keeps h f (λ t e. g t c e))
+
+  added-keeps : (d : ℕ) → s .closed ≡ false → (x : Option ℕ) → lowestFree s ≡ x → P (addedAt s d x .state)
+  added-keeps d c none e = k .now
+  added-keeps d c (some p) e = k .adds p d c e
+
+  -- add
+  pub add-keeps : (d : ℕ) → P (addOf s d .state)
+  unfolding addOf
+  add-keeps d = guarded-keeps P s s (k .now) (addedAt s d (lowestFree s)) (λ c. added-keeps d c (lowestFree s) refl)
+
+  -- reset
+  pub reset-keeps : (h : Handle) (d : ℕ) → P (resetOf s h d .state)
+  unfolding resetOf
+  reset-keeps h d = live-keeps h (λ t. gives (resetTo s h d t) nothing) (λ t c e. k .resets h t d c e)
+
+  -- cancel
+  pub cancel-keeps : (h : Handle) → P (cancelOf s h .state)
+  unfolding cancelOf
+  cancel-keeps h = live-keeps h (λ t. gives (touchedOf s (h .place .0) (Cancelled (t .word))) nothing) (λ t c e. k .cancels h t c e)
+
+  -- drain
+  pub drain-keeps : (s .closed ≡ false → P (drainedOf s)) → P (drainOf s .state)
+  unfolding drainOf
+  drain-keeps f = guarded-keeps P s s (k .now) (gives (drainedOf s) nothing) f
+
+  ticked-keeps : (h : Handle) (t : Timing) → ((d : ℕ) → P (resetTo s h d t)) → (b : Bool) (a : Answer ℕ)
+      → P ((cond b (tickedBy s h t a) (refusing s NotFired)) .state)
+  ticked-keeps h t f true (accepted d) = f d
+  ticked-keeps h t f true (refused n) = k .now
+  ticked-keeps h t f false a = k .now
+
+  -- tick
+  pub tick-keeps : (h : Handle) (p : Policy) (period N : ℕ) → P (tickAt s h p period N .state)
+  unfolding tickAt
+  tick-keeps h p period N =
+      live-keeps h (ticked s h p period N)
+      (λ t c e. ticked-keeps h t (λ d. k .resets h t d c e) (Word.firedIn (t .word)) (tickOf p (t .due) period N))
+
+  restarted-keeps : (h : Handle) (t : Timing) → ((d : ℕ) → P (resetTo s h d t)) → (a : Answer ℕ) → P (restartedBy s h t a .state)
+  restarted-keeps h t f (accepted d) = f d
+  restarted-keeps h t f (refused n) = k .now
+
+  -- interval reset
+  pub restart-keeps : (h : Handle) (period N : ℕ) → P (restartAt s h period N .state)
+  unfolding restartAt
+  restart-keeps h period N =
+      live-keeps h (λ t. restartedBy s h t (restartOf period N))
+      (λ t c e. restarted-keeps h t (λ d. k .resets h t d c e) (restartOf period N))
+
+  -- next wake
+  pub wake-keeps : P (nextWakeOf s .state)
+  unfolding nextWakeOf guarded
+  wake-keeps = go (soundOf s)
+    where
+      go : (b : Bool) → P ((cond b (gives s (wake (wakeBy (peekSound (s .heap))))) (refusing s Unsound)) .state)
+      go true = k .now
+      go false = k .now
+
+  -- poll
+  pub poll-keeps : (h : Handle) → P (pollOf s h .state)
+  unfolding pollOf guarded
+  poll-keeps h = go (soundOf s)
+    where
+      go : (b : Bool) → P ((cond b (alive s (liveAt s h) (λ t. gives s (polled (pollBy (Word.pollOf (t .word)))))) (refusing s Unsound)) .state)
+      go true = alive-keeps h (λ t. gives s (polled (pollBy (Word.pollOf (t .word))))) (λ t e. k .now)
+      go false = k .now
+
+  module _ (on : KeptOn P s) where
+    roomy-keeps : (l : List ℕ) (o : Outcome Lent Value) → P (o .state .set) → P (roomy s l o .state .set)
+    roomy-keeps l o p = go (leb cap (length l))
+      where
+        go : (b : Bool) → P ((cond b o (refusing (lent s l) ShortList)) .state .set)
+        go true = p
+        go false = k .now
+
+    -- advance
+    pub advance-keeps : (N : ℕ) (l : List ℕ) → P (advanceOf s N l .state .set)
+    unfolding advanceOf
+    advance-keeps N l =
+        guarded-keeps (λ (x : Lent). P (x .set)) s (lent s l) (k .now) (roomy s l (rang (advancedOf s N l)))
+        (λ c. roomy-keeps l (rang (advancedOf s N l)) (on .advances N l c))
+
+    -- turn
+    pub turn-keeps : (N : ℕ) (l : List ℕ) → P (turnOf s N l .state .set)
+    unfolding turnOf
+    turn-keeps N l =
+        guarded-keeps (λ (x : Lent). P (x .set)) s (lent s l) (k .now) (roomy s l (rang (advancedOf (drainedOf s) N l)))
+        (λ c. roomy-keeps l (rang (advancedOf (drainedOf s) N l)) (on .turns N l c))
+
+    -- close
+    pub close-keeps : P (closeOf s .state)
+    unfolding closeOf
+    close-keeps = guarded-keeps P s s (k .now) (gives (closedOf s) nothing) (on .closes)
+
+    -- every call
+    pub step-keeps : (c : Call) (l : List ℕ) → P (step s c l .state .set)
+    unfolding step
+    step-keeps (C.Add d) l = add-keeps d
+    step-keeps (C.Reset h d) l = reset-keeps h d
+    step-keeps (C.Cancel h) l = cancel-keeps h
+    step-keeps C.Drain l = drain-keeps (on .drains)
+    step-keeps (C.Advance N) l = advance-keeps N l
+    step-keeps (C.Turn N) l = turn-keeps N l
+    step-keeps C.NextWake l = wake-keeps
+    step-keeps (C.Poll h) l = poll-keeps h
+    step-keeps C.Close l = close-keeps
+    step-keeps (C.Tick h p period N) l = tick-keeps h p period N
+    step-keeps (C.Restart h period N) l = restart-keeps h period N

@@ -1,0 +1,3 @@
+pub mod DrainLaws
+pub mod RingLaws
+pub mod CloseLaws

@@ -1,0 +1,95 @@
+// The waiting list and the places: a timer is pushed on the list, and a free place is found.
+use heap::Place;
+use state::First;
+use state::Life;
+use state::Set;
+use state::Timer;
+use state::Waiting;
+ghost use mathlib.Core.Path.{_≡_};
+ghost use Prim.Native.Nat.{_<_};
+ghost use Rattle.heap.specs.Capacity.{cap};
+ghost use Rattle.moves.specs.Rules.{linkTo, touchedOf, isFree, lowestFree, spotOf};
+
+// Where a timer can be put.
+pub enum Spot {
+    Nowhere,
+    At(usize),
+}
+
+// The timer at a place gets a new life and is pushed on the list. One that waits already stays where it is in the list.
+pub fn touched(s: Set, p: usize, life: Life) -> Set
+    requires { ⌜ p < cap ⌝ }
+    ensures { λ r. ⌜ r ≡ touchedOf s p life ⌝ }
+{
+    let place = Place(p as u16);
+    let h = s.heap;
+    let f = s.first;
+    let mut ts = s.timers;
+    let t = ts[p];
+    let w = t.waiting;
+    let d = t.held;
+    if state::fault::waits(w) {
+        ts[p] = Timer {
+            life,
+            waiting: w,
+            held: d,
+            uses: t.uses,
+        };
+        return Set {
+            heap: h,
+            timers: ts,
+            first: f,
+            closed: s.closed,
+        };
+    }
+    ts[p] = Timer {
+        life,
+        waiting: link_to(f),
+        held: d,
+        uses: t.uses,
+    };
+    Set {
+        heap: h,
+        timers: ts,
+        first: First::At(place),
+        closed: s.closed,
+    }
+}
+
+// The lowest free place.
+pub fn lowest_free(s: Set) -> Spot
+    ensures { λ r. ⌜ spotOf r ≡ lowestFree s ⌝ }
+{
+    let mut p: usize = 0;
+    while p < heap::CAP {
+        let t = s.timers[p];
+        let l = t.life;
+        if is_free(l) {
+            return Spot::At(p);
+        }
+        p += 1;
+    }
+    Spot::Nowhere
+}
+
+// Whether a place is nobody's, and may be taken.
+fn is_free(life: Life) -> bool
+    ensures { λ r. ⌜ r ≡ isFree life ⌝ }
+{
+    match life {
+        Life::Free => true,
+        Life::Live { word: _, due: _ } => false,
+        Life::Cancelled { word: _ } => false,
+        Life::Retired => false,
+    }
+}
+
+// The link of a timer that goes in front of the list.
+fn link_to(f: First) -> Waiting
+    ensures { λ r. ⌜ r ≡ linkTo f ⌝ }
+{
+    match f {
+        First::Nothing => Waiting::Last,
+        First::At(q) => Waiting::Before(q),
+    }
+}
