@@ -70,3 +70,13 @@ pub through-both : (s : Set) → (soundOf s ≡ true) × (s .closed ≡ false) �
     → guarded s k (opened s k o) ≡ o
 unfolding guarded
 through-both s p k o = rw (p .0, p .1)
+
+-- turned away by the first test, and so by both
+pub stopped-first : (s : Set) (why : Refusal) → refused (numberOf why) ≡ guardOf s → refused (numberOf why) ≡ openOf s
+unfolding guardOf openOf
+stopped-first s why e = go (soundOf s) e
+  where
+    go : (b : Bool) → _≡_ {A = Answer Nothing} (refused (numberOf why)) (cond b (accepted tt) (refuse Unsound))
+        → _≡_ {A = Answer Nothing} (refused (numberOf why)) (cond b (cond (s .closed) (refuse Closed) (accepted tt)) (refuse Unsound))
+    go true e = absurd (not-both (sym e))
+    go false e = e

@@ -1,21 +1,18 @@
+-- The guard answers as the test does.
+-- Assumes nothing.
+use mathlib.Core.Path.{sym, _∙_}
 use borrow.Author.Needs.{needs}
+use Rattle.timers.specs.Calls.{guardOf}
 use Rattle.timers.proofs.guarded.Statement.{statement}
 use Rattle.timers.proofs.guarded.Tie as tie
-use Rattle.timers.proofs.guarded.Reads as reads
-use Rattle.timers.proofs.guarded.Lts as lts
-use Rattle.state.proofs.sound.Reads as sound-reads
 
--- src/lib.rt:99:8
-sound-requires : tie.Need-sound-requires
-sound-requires c κs = search needs
-
--- src/lib.rt:96:1
 returns : tie.Need-returns
-returns c = ?
+unfolding guardOf
+returns c = rw (sym (c .before .sound .ensures) ∙ c .if1 .taken)
 
--- src/lib.rt:96:1
 returns-2 : tie.Need-returns-2
-returns-2 c = ?
+unfolding guardOf
+returns-2 c = rw (sym (c .before .sound .ensures) ∙ c .if1 .left)
 
 pub guarded-spec : {M : Type 1} → statement M
-guarded-spec = tie.close (tie.spec sound-requires returns returns-2)
+guarded-spec = tie.close (tie.spec (λ c κs. search needs) returns returns-2)

@@ -1,33 +1,25 @@
+-- The first test, then the closed mark, in the order of the refusals.
+-- Assumes nothing.
 use borrow.Author.Needs.{needs}
+use Rattle.timers.specs.Calls.{openOf}
+use Rattle.timers.proofs.Guarding.{passed, stopped-first}
 use Rattle.timers.proofs.opened.Statement.{statement}
 use Rattle.timers.proofs.opened.Tie as tie
-use Rattle.timers.proofs.opened.Reads as reads
-use Rattle.timers.proofs.opened.Lts as lts
-use Rattle.timers.proofs.guarded.Reads as guarded-reads
 
--- src/lib.rt:110:34
-guarded-requires : tie.Need-guarded-requires
-guarded-requires c κs = search needs
-
--- src/lib.rt:110:27
-enum-known-why : tie.Need-enum-known-why
-enum-known-why c = search needs
-
--- src/lib.rt:111:9
 returns : tie.Need-returns
-returns c = ?
+returns c =
+    stopped-first (c .before .before .before .before .args .s) (c .before .why .given .0 .0)
+    (rw (c .before .why .given .1) at (c .before .before .before .guarded .ensures))
 
-enum-told : tie.Need-enum-told
-enum-told c = search needs
-
--- src/lib.rt:114:9
 returns-2 : tie.Need-returns-2
-returns-2 c = ?
+unfolding openOf
+returns-2 c =
+    rw (passed (c .before .before .before .before .args .s) (rw (c .before .enum-told .given .1) at (c .before .before .before .guarded .ensures)), c .if1 .taken)
 
--- src/lib.rt:107:1
 returns-3 : tie.Need-returns-3
-returns-3 c = ?
+unfolding openOf
+returns-3 c =
+    rw (passed (c .before .before .before .before .args .s) (rw (c .before .enum-told .given .1) at (c .before .before .before .guarded .ensures)), c .if1 .left)
 
 pub opened-spec : {M : Type 1} → statement M
-opened-spec =
-    tie.close (tie.spec guarded-requires enum-known-why returns enum-told returns-2 returns-3)
+opened-spec = tie.close (tie.spec (λ c κs. search needs) (λ c. search needs) returns (λ c. search needs) returns-2 returns-3)
