@@ -5,6 +5,8 @@ use mathlib.Core.Bool.{Bool, true, false, cond, _&&_}
 use mathlib.Core.List.{List, [], _∷_, _++_}
 use Prim.Native.Nat.{ℕ, _+_, _*_}
 use lib.Dec.{eqb}
+use lib.ListN.{replicate}
+use Rattle.heap.specs.Capacity.{cap}
 use mathlib.Core.Option.{Option, none, some}
 use Rattle.refusals.specs.Answer.{Answer, accepted, refused, Outcome}
 use Rattle.heap.specs.declared.Entry.{Entry}
@@ -13,6 +15,11 @@ use Rattle.heap.specs.declared.Heap.{Heap}
 use Rattle.heap.specs.Rules.{items}
 use Rattle.heap.specs.Calls.{Off, freshOf, pushOf, removeOf, popOf}
 use Rattle.word.specs.Rules.{resetOf}
+use Rattle.state.specs.declared.Handle.{Handle}
+use Rattle.state.specs.State as Set
+use Rattle.timers.specs.declared.Call.{Call}
+use Rattle.timers.specs.declared.Call.the-variants as C
+use Rattle.timers.specs.Calls.{Value, nothing, handle, counts, wake, polled, time, Lent, lent, step}
 use Rattle.interval.specs.declared.Policy.{Policy}
 use Rattle.interval.specs.declared.Policy.the-variants.{Burst, Delay, Skip}
 use Rattle.interval.specs.Rules.{tickOf}
@@ -35,6 +42,7 @@ pub record Stands : Type 0 where
   pub slot : ℕ
 
 infixl 70 _at-slot_
+infixl 70 _with-use_
 abbrev pub _at-slot_ : ℕ → ℕ → Stands
 d at-slot s = record { deadline = d; slot = s }
 
@@ -46,6 +54,8 @@ pub data Case : Type 0 where
   tick : Policy → (T period N deadline : ℕ) → Case
   -- these calls on a fresh heap leave these entries, by position; the pushes got these slots, and the last call made these swaps
   heap : List HeapCall → List Stands → List ℕ → ℕ → Case
+  -- these calls on a fresh set of timers, with a long enough list lent, answer this
+  set : List Call → List (Answer Value) → Case
 
 pub record Row : Type 0 where
   pub number : ℕ
@@ -98,9 +108,36 @@ standing (x ∷ xs) (y ∷ ys) = eqb (x .at) (y .deadline) && (eqb (x .slot .0) 
 abbrev pub ranRight : Run → List Stands → List ℕ → ℕ → Bool
 ranRight r es ss n = standing (items (r .heap)) es && (sameNumbers (r .slots) ss && eqb (r .swaps) n)
 
+-- an answer as numbers, to compare it by: its kind, then its values
+abbrev pub valueCode : Value → List ℕ
+valueCode nothing = 0 ∷ []
+valueCode (handle h) = 1 ∷ h .place .0 ∷ h .uses ∷ []
+valueCode (counts reported popped) = 2 ∷ reported ∷ popped ∷ []
+valueCode (wake none) = 3 ∷ []
+valueCode (wake (some t)) = 4 ∷ t ∷ []
+valueCode (polled n) = 5 ∷ n ∷ []
+valueCode (time t) = 6 ∷ t ∷ []
+
+abbrev pub code : Answer Value → List ℕ
+code (accepted v) = valueCode v
+code (refused n) = 7 ∷ n ∷ []
+
+-- whether the calls answer so, one after the other
+abbrev pub answered : Lent → List Call → List (Answer Value) → Bool
+answered s [] [] = true
+answered s [] (a ∷ rest) = false
+answered s (c ∷ cs) [] = false
+answered s (c ∷ cs) (a ∷ rest) =
+    let o = step (s .set) c (s .list) in sameNumbers (code (o .answer)) (code a) && answered (o .state) cs rest
+
+-- a timer's handle
+abbrev pub _with-use_ : ℕ → ℕ → Handle
+p with-use u = record { place = record { 0 = p }; uses = u }
+
 abbrev pub right : Case → Bool
 right (word w v) = eqb (resetOf w) v
 right (tick p T period N d) = answers (tickOf p T period N) d
+right (set cs answers) = answered (lent Set.freshOf (replicate cap 0)) cs answers
 right (heap cs es ss n) = ranRight (madeAll (record { heap = freshOf; slots = []; swaps = 0 }) cs) es ss n
 
 -- the numbers of the rows that are wrong
@@ -137,4 +174,8 @@ rows =
     (heap (push 1 ∷ push 2 ∷ push 3 ∷ remove 1 ∷ remove 2 ∷ remove 0 ∷ push 4 ∷ push 5 ∷ push 6 ∷ push 7 ∷ [])
     (4 at-slot 0 ∷ 5 at-slot 2 ∷ 6 at-slot 1 ∷ 7 at-slot 3 ∷ [])
     (0 ∷ 1 ∷ 2 ∷ 0 ∷ 2 ∷ 1 ∷ 3 ∷ []) 0)
+    ∷ row 11
+    (set (C.Add 10 ∷ C.Drain ∷ C.Reset (0 with-use 0) 20 ∷ C.Advance 10 ∷ C.Drain ∷ C.NextWake ∷ [])
+    (accepted (handle (0 with-use 0)) ∷ accepted nothing ∷ accepted nothing ∷ accepted (counts 0 1) ∷ accepted nothing
+    ∷ accepted (wake (some 20)) ∷ []))
     ∷ []
