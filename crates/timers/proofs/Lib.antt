@@ -1,1 +1,4 @@
 pub mod Guarding
+pub mod Alive
+pub mod Sounding
+pub mod Lending

@@ -1,85 +1,67 @@
+-- The lowest free place, where there is one, is touched as a live timer's, and named with its use number.
+-- Assumes nothing.
+use mathlib.Core.Path.{sym, _∙_}
+use Prim.Native.Nat.{_<_}
 use borrow.Author.Needs.{needs}
+use Rattle.heap.specs.Capacity.{cap}
+use Rattle.timers.specs.Calls.{addOf}
+use Rattle.timers.proofs.Alive.{turned-away, let-through, as-placed, free-place}
 use Rattle.timers.proofs.add.Statement.{statement}
 use Rattle.timers.proofs.add.Tie as tie
-use Rattle.timers.proofs.add.Reads as reads
-use Rattle.timers.proofs.add.Lts as lts
-use Rattle.timers.proofs.list.lowest_free.Reads as lowest-free-reads
-use Rattle.timers.proofs.list.touched.Reads as touched-reads
-use Rattle.timers.proofs.opened.Reads as opened-reads
-use Rattle.timers.proofs.refused.Reads as refused-reads
 
--- src/lib.rt:123:34
-opened-requires : tie.Need-opened-requires
-opened-requires c κs = search needs
-
--- src/lib.rt:123:27
-enum-known-why : tie.Need-enum-known-why
-enum-known-why c = search needs
-
--- src/lib.rt:124:9
-refused-requires : tie.Need-refused-requires
-refused-requires c κs = search needs
-
--- src/lib.rt:124:9
 returns : tie.Need-returns
-returns c = ?
+unfolding addOf
+returns c = c .refused .ensures ∙ sym (turned-away _ _ (c .before .before .why .given .1) (c .before .before .before .before .opened .ensures))
 
-enum-told : tie.Need-enum-told
-enum-told c = search needs
-
--- src/lib.rt:126:11
-lowest-free-requires : tie.Need-lowest-free-requires
-lowest-free-requires c κs = search needs
-
--- src/lib.rt:127:40
-enum-told-2 : tie.Need-enum-told-2
-enum-told-2 c = search needs
-
--- src/lib.rt:127:32
-refused-requires-2 : tie.Need-refused-requires-2
-refused-requires-2 c κs = search needs
-
--- src/lib.rt:128:24
-enum-known-p : tie.Need-enum-known-p
-enum-known-p c = search needs
-
--- src/lib.rt:129:21
 mul-t : tie.Need-mul-t
-mul-t c = ?
+mul-t c =
+    let f = c .before in
+    let l : f .p .given .0 .0 < cap = free-place _ (f .p .given .1) (f .before .before .lowest-free .ensures) in
+    search (needs, l)
 
--- src/lib.rt:129:21
 element-copy-out-t : tie.Need-element-copy-out-t
-element-copy-out-t c = ?
+element-copy-out-t c = free-place _ (c .before .p .given .1) (c .before .before .before .lowest-free .ensures)
 
--- src/lib.rt:130:17
 touched-requires : tie.Need-touched-requires
-touched-requires c κs = ?
+touched-requires c κs = free-place _ (c .before .before .p .given .1) (c .before .before .before .before .lowest-free .ensures)
 
--- src/lib.rt:134:34
 cast-t21 : tie.Need-cast-t21
-cast-t21 c = ?
+cast-t21 c =
+    let f = c .before .before .before in
+    let l : f .p .given .0 .0 < cap = free-place _ (f .p .given .1) (f .before .before .lowest-free .ensures) in
+    search (needs, l)
 
--- src/lib.rt:120:1
 returns-2 : tie.Need-returns-2
-returns-2 c = ?
+unfolding addOf
+returns-2 c =
+    let n = c .before .before .before in
+    c .refused2 .ensures
+    ∙ sym
+    (let-through _ _ (n .before .enum-told .given .1) (n .before .before .before .opened .ensures)
+    ∙ as-placed _ _ (c .before .enum-told2 .given .1) (n .lowest-free .ensures))
 
--- src/lib.rt:120:1
 returns-3 : tie.Need-returns-3
-returns-3 c = ?
+unfolding addOf
+returns-3 c =
+    let n = c .before .before .before .before .before in
+    rw (c .touched .ensures)
+    (sym
+    (let-through _ _ (n .before .enum-told .given .1) (n .before .before .before .opened .ensures)
+    ∙ as-placed _ _ (c .before .before .before .p .given .1) (n .lowest-free .ensures)))
 
 pub add-spec : {M : Type 1} → statement M
 add-spec =
     tie.close
     (tie.spec
-    opened-requires
-    enum-known-why
-    refused-requires
+    (λ c κs. search needs)
+    (λ c. search needs)
+    (λ c κs. search needs)
     returns
-    enum-told
-    lowest-free-requires
-    enum-told-2
-    refused-requires-2
-    enum-known-p
+    (λ c. search needs)
+    (λ c κs. search needs)
+    (λ c. search needs)
+    (λ c κs. search needs)
+    (λ c. search needs)
     mul-t
     element-copy-out-t
     touched-requires

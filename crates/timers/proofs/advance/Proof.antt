@@ -1,62 +1,63 @@
+-- A set that is let through is sound, so that its entries may be popped, and the list is long enough; else the call is refused and
+-- the list is as it was.
+-- Assumes nothing.
+use mathlib.Core.Path.{_≡_, ap, _∙_}
 use borrow.Author.Needs.{needs}
+use denote.Ref.{now}
+use lib.ListN.{length}
+use Rattle.theory.proofs.Stores.{unmapped}
+use Rattle.heap.specs.Capacity.{cap}
+use Rattle.moves.specs.Rules.{Ring, advancedOf}
+use Rattle.timers.specs.Calls.{rang, advanceOf}
+use Rattle.timers.proofs.Guarding.{passed-both}
+use Rattle.timers.proofs.Sounding.{set-sound}
+use Rattle.timers.proofs.Lending.{turned-away, too-short, long-enough}
 use Rattle.timers.proofs.advance.Statement.{statement}
 use Rattle.timers.proofs.advance.Tie as tie
-use Rattle.timers.proofs.advance.Reads as reads
-use Rattle.timers.proofs.advance.Lts as lts
-use Rattle.timers.proofs.opened.Reads as opened-reads
-use Rattle.timers.proofs.refused.Reads as refused-reads
-use Rattle.timers.proofs.rings.advanced.Reads as advanced-reads
 
--- src/lib.rt:195:34
-opened-requires : tie.Need-opened-requires
-opened-requires c κs = search needs
-
--- src/lib.rt:195:27
-enum-known-why : tie.Need-enum-known-why
-enum-known-why c = search needs
-
--- src/lib.rt:196:9
-refused-requires : tie.Need-refused-requires
-refused-requires c κs = search needs
-
--- src/lib.rt:196:9
 returns : tie.Need-returns
-returns c = ?
+unfolding advanceOf
+returns c =
+    let a = c .before .before .before .before .before .before .args in
+    turned-away (a .s) (now (a .list)) _ (c .before .before .why .given .0 .0) (c .refused .result)
+    (rw (c .before .before .why .given .1) at (c .before .before .before .before .opened .ensures)) (c .refused .ensures)
 
-enum-told : tie.Need-enum-told
-enum-told c = search needs
-
--- src/lib.rt:199:9
-refused-requires-2 : tie.Need-refused-requires-2
-refused-requires-2 c κs = search needs
-
--- src/lib.rt:199:9
 returns-2 : tie.Need-returns-2
-returns-2 c = ?
+unfolding advanceOf
+returns-2 c =
+    let a = c .before .before .before .before .before .before .args in
+    let p = passed-both (a .s) (rw (c .before .before .enum-told .given .1) at (c .before .before .before .before .opened .ensures)) in
+    too-short (a .s) (now (a .list)) _ (c .refused2 .result) p (c .before .if1 .taken) (c .refused2 .ensures)
 
--- src/lib.rt:201:9
 advanced-requires : tie.Need-advanced-requires
-advanced-requires c κs = ?
+advanced-requires c κs =
+    let s = c .before .before .before .before .before .before .args .s in
+    let n : length (s .timers) ≡ cap = search (needs, unmapped) in
+    let m : length (s .heap .entries) ≡ cap = search (needs, unmapped) in
+    let k : length (s .heap .slots) ≡ cap = search (needs, unmapped) in
+    let e = rw (c .before .before .enum-told .given .1) at (c .before .before .before .before .opened .ensures) in
+    (set-sound s n m k (passed-both s e .0), c .before .if1 .left)
 
--- src/lib.rt:192:1
-same-length : tie.Need-same-length
-same-length c = search needs
-
--- src/lib.rt:192:1
 returns-3 : tie.Need-returns-3
-returns-3 c = ?
+unfolding advanceOf
+returns-3 c =
+    let d = c .before .before .before .before .before in
+    let a = d .before .before .before .before .before .args in
+    let p = passed-both (a .s) (rw (d .before .enum-told .given .1) at (d .before .before .before .opened .ensures)) in
+    ap (λ (r : Ring). rang r) (c .before .before .before .advanced .ensures)
+    ∙ long-enough (a .s) (now (a .list)) (rang (advancedOf (a .s) (a .reading) (now (a .list)))) p (d .if1 .left)
 
 pub advance-spec : {M : Type 1} → statement M
 advance-spec =
     tie.close
     (tie.spec
-    opened-requires
-    enum-known-why
-    refused-requires
+    (λ c κs. search needs)
+    (λ c. search needs)
+    (λ c κs. search needs)
     returns
-    enum-told
-    refused-requires-2
+    (λ c. search needs)
+    (λ c κs. search needs)
     returns-2
     advanced-requires
-    same-length
+    (λ c. search needs)
     returns-3)

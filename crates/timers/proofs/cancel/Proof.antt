@@ -1,78 +1,53 @@
+-- A live timer is touched as a cancelled one, with its word, and a dead handle refused.
+-- Assumes nothing.
+use mathlib.Core.Path.{sym, ap, _∙_}
 use borrow.Author.Needs.{needs}
+use Rattle.state.specs.declared.Set.{Set}
+use Rattle.timers.specs.Calls.{cancelOf, gives, nothing}
+use Rattle.timers.proofs.Alive.{turned-away, let-through, as-found, live-place}
 use Rattle.timers.proofs.cancel.Statement.{statement}
 use Rattle.timers.proofs.cancel.Tie as tie
-use Rattle.timers.proofs.cancel.Reads as reads
-use Rattle.timers.proofs.cancel.Lts as lts
-use Rattle.timers.proofs.list.touched.Reads as touched-reads
-use Rattle.timers.proofs.named.Reads as named-reads
-use Rattle.timers.proofs.opened.Reads as opened-reads
-use Rattle.timers.proofs.refused.Reads as refused-reads
 
--- src/lib.rt:162:34
-opened-requires : tie.Need-opened-requires
-opened-requires c κs = search needs
-
--- src/lib.rt:162:27
-enum-known-why : tie.Need-enum-known-why
-enum-known-why c = search needs
-
--- src/lib.rt:163:9
-refused-requires : tie.Need-refused-requires
-refused-requires c κs = search needs
-
--- src/lib.rt:163:9
 returns : tie.Need-returns
-returns c = ?
+unfolding cancelOf
+returns c = c .refused .ensures ∙ sym (turned-away _ _ (c .before .before .why .given .1) (c .before .before .before .before .opened .ensures))
 
-enum-told : tie.Need-enum-told
-enum-told c = search needs
-
--- src/lib.rt:165:11
-named-requires : tie.Need-named-requires
-named-requires c κs = search needs
-
--- src/lib.rt:166:36
-enum-told-2 : tie.Need-enum-told-2
-enum-told-2 c = search needs
-
--- src/lib.rt:166:25
-refused-requires-2 : tie.Need-refused-requires-2
-refused-requires-2 c κs = search needs
-
--- src/lib.rt:167:24
-enum-known-word : tie.Need-enum-known-word
-enum-known-word c = search needs
-
--- src/lib.rt:168:21
-cast-p : tie.Need-cast-p
-cast-p c = search needs
-
--- src/lib.rt:169:17
 touched-requires : tie.Need-touched-requires
-touched-requires c κs = ?
+touched-requires c κs = live-place _ _ (c .before .before .word .given .1) (c .before .before .before .before .named .ensures)
 
--- src/lib.rt:159:1
 returns-2 : tie.Need-returns-2
-returns-2 c = ?
+unfolding cancelOf
+returns-2 c =
+    let n = c .before .before .before in
+    c .refused2 .ensures
+    ∙ sym
+    (let-through _ _ (n .before .enum-told .given .1) (n .before .before .before .opened .ensures)
+    ∙ as-found _ _ _ (c .before .enum-told2 .given .1) (n .named .ensures))
 
--- src/lib.rt:159:1
 returns-3 : tie.Need-returns-3
-returns-3 c = ?
+unfolding cancelOf
+returns-3 c =
+    let w = c .before .before .before in
+    let n = w .before .before in
+    ap (λ (g : Set). gives g nothing) (c .touched .ensures)
+    ∙ sym
+    (let-through _ _ (n .before .enum-told .given .1) (n .before .before .before .opened .ensures)
+    ∙ as-found _ _ _ (w .word .given .1) (n .named .ensures))
 
 pub cancel-spec : {M : Type 1} → statement M
 cancel-spec =
     tie.close
     (tie.spec
-    opened-requires
-    enum-known-why
-    refused-requires
+    (λ c κs. search needs)
+    (λ c. search needs)
+    (λ c κs. search needs)
     returns
-    enum-told
-    named-requires
-    enum-told-2
-    refused-requires-2
-    enum-known-word
-    cast-p
+    (λ c. search needs)
+    (λ c κs. search needs)
+    (λ c. search needs)
+    (λ c κs. search needs)
+    (λ c. search needs)
+    (λ c. search needs)
     touched-requires
     returns-2
     returns-3)

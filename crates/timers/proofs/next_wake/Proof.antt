@@ -1,72 +1,75 @@
+-- A set that is let through has a sound heap, and the wake is its head's deadline; a closed set is asked as any other.
+-- Assumes nothing.
+use mathlib.Core.Path.{_≡_, sym, ap, _∙_}
+use mathlib.Core.Bool.{true}
+use mathlib.Core.Option.{Option}
 use borrow.Author.Needs.{needs}
+use lib.ListN.{length}
+use Rattle.theory.proofs.Stores.{unmapped}
+use Rattle.refusals.specs.Answer.{Answer}
+use Rattle.heap.specs.Capacity.{cap}
+use Rattle.heap.specs.declared.Entry.{Entry}
+use Rattle.heap.specs.Calls.{peekSound}
+use Rattle.state.specs.declared.Set.{Set}
+use Rattle.state.specs.Faults.{soundOf}
+use Rattle.timers.specs.Calls.{gives, wake, wakeBy, nextWakeOf}
+use Rattle.timers.proofs.Guarding.{stopped, passed, through}
+use Rattle.timers.proofs.Sounding.{set-sound}
 use Rattle.timers.proofs.next_wake.Statement.{statement}
 use Rattle.timers.proofs.next_wake.Tie as tie
-use Rattle.timers.proofs.next_wake.Reads as reads
-use Rattle.timers.proofs.next_wake.Lts as lts
-use Rattle.heap.proofs.peek_sound.Reads as peek-sound-reads
-use Rattle.timers.proofs.guarded.Reads as guarded-reads
-use Rattle.timers.proofs.refused.Reads as refused-reads
 
--- src/lib.rt:237:34
-guarded-requires : tie.Need-guarded-requires
-guarded-requires c κs = search needs
-
--- src/lib.rt:237:27
-enum-known-why : tie.Need-enum-known-why
-enum-known-why c = search needs
-
--- src/lib.rt:238:9
-refused-requires : tie.Need-refused-requires
-refused-requires c κs = search needs
-
--- src/lib.rt:238:9
 returns : tie.Need-returns
-returns c = ?
+unfolding nextWakeOf
+returns c =
+    let s = c .before .before .before .before .before .args .s in
+    let e = rw (c .before .before .why .given .1) at (c .before .before .before .before .guarded .ensures) in
+    c .refused .ensures ∙ sym (stopped s (c .before .before .why .given .0 .0) e s _)
 
-enum-told : tie.Need-enum-told
-enum-told c = search needs
-
--- src/lib.rt:241:11
 peek-sound-requires : tie.Need-peek-sound-requires
-peek-sound-requires c κs = ?
+peek-sound-requires c κs =
+    let s = c .before .before .before .before .args .s in
+    let n : length (s .timers) ≡ cap = search (needs, unmapped) in
+    let m : length (s .heap .entries) ≡ cap = search (needs, unmapped) in
+    let k : length (s .heap .slots) ≡ cap = search (needs, unmapped) in
+    set-sound s n m k (passed s (rw (c .before .enum-told .given .1) at (c .before .before .before .guarded .ensures)))
 
--- src/lib.rt:242:28
-enum-known-e : tie.Need-enum-known-e
-enum-known-e c = search needs
+-- a sound set's wake, as the heap's peek says it
+wakes : (s : Set) (a : Answer (Option Entry)) → soundOf s ≡ true → a ≡ peekSound (s .heap) → gives s (wake (wakeBy a)) ≡ nextWakeOf s
+unfolding nextWakeOf
+wakes s a p e = ap (λ (x : Answer (Option Entry)). gives s (wake (wakeBy x))) e ∙ sym (through s p s _)
 
--- src/lib.rt:248:20
-enum-told-2 : tie.Need-enum-told-2
-enum-told-2 c = search needs
-
--- src/lib.rt:252:20
-enum-told-3 : tie.Need-enum-told-3
-enum-told-3 c = search needs
-
--- src/lib.rt:234:1
 returns-2 : tie.Need-returns-2
-returns-2 c = ?
+returns-2 c =
+    let s = c .before .before .before .before .before .before .before .before .args .s in
+    let e = rw (c .before .before .before .before .before .enum-told .given .1) at (c .before .before .before .before .before .before .before .guarded .ensures) in
+    wakes s _ (passed s e)
+    (rw (c .before .e .given .1) at (c .before .before .before .peek-sound .ensures))
 
--- src/lib.rt:234:1
 returns-3 : tie.Need-returns-3
-returns-3 c = ?
+returns-3 c =
+    let s = c .before .before .before .before .before .before .before .args .s in
+    wakes s _ (passed s (rw (c .before .before .before .before .enum-told .given .1) at (c .before .before .before .before .before .before .guarded .ensures)))
+    (rw (c .enum-told2 .given .1) at (c .before .before .peek-sound .ensures))
 
--- src/lib.rt:234:1
 returns-4 : tie.Need-returns-4
-returns-4 c = ?
+returns-4 c =
+    let s = c .before .before .before .before .before .before .before .args .s in
+    wakes s _ (passed s (rw (c .before .before .before .before .enum-told .given .1) at (c .before .before .before .before .before .before .guarded .ensures)))
+    (rw (c .enum-told3 .given .1) at (c .before .before .peek-sound .ensures))
 
 pub next-wake-spec : {M : Type 1} → statement M
 next-wake-spec =
     tie.close
     (tie.spec
-    guarded-requires
-    enum-known-why
-    refused-requires
+    (λ c κs. search needs)
+    (λ c. search needs)
+    (λ c κs. search needs)
     returns
-    enum-told
+    (λ c. search needs)
     peek-sound-requires
-    enum-known-e
-    enum-told-2
-    enum-told-3
+    (λ c. search needs)
+    (λ c. search needs)
+    (λ c. search needs)
     returns-2
     returns-3
     returns-4)

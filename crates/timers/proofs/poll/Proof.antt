@@ -1,73 +1,63 @@
+-- A poll answers what the word of the named timer says; a handle that names none is refused.
+-- Assumes nothing.
+use mathlib.Core.Path.{_≡_, sym, ap, _∙_}
+use mathlib.Core.Bool.{true}
+use mathlib.Core.Option.{Option}
+use Prim.Native.Nat.{ℕ}
 use borrow.Author.Needs.{needs}
+use Rattle.refusals.specs.Answer.{Answer}
+use Rattle.word.specs.Rules as Word
+use Rattle.state.specs.declared.Set.{Set}
+use Rattle.state.specs.declared.Handle.{Handle}
+use Rattle.state.specs.Faults.{soundOf}
+use Rattle.timers.specs.Calls.{Timing, gives, polled, pollBy, alive, liveAt, pollOf}
+use Rattle.timers.proofs.Guarding.{stopped, passed, through}
 use Rattle.timers.proofs.poll.Statement.{statement}
 use Rattle.timers.proofs.poll.Tie as tie
-use Rattle.timers.proofs.poll.Reads as reads
-use Rattle.timers.proofs.poll.Lts as lts
-use Rattle.timers.proofs.guarded.Reads as guarded-reads
-use Rattle.timers.proofs.named.Reads as named-reads
-use Rattle.timers.proofs.refused.Reads as refused-reads
-use Rattle.word.proofs.poll.Reads as poll-reads
 
--- src/lib.rt:261:34
-guarded-requires : tie.Need-guarded-requires
-guarded-requires c κs = search needs
-
--- src/lib.rt:261:27
-enum-known-why : tie.Need-enum-known-why
-enum-known-why c = search needs
-
--- src/lib.rt:262:9
-refused-requires : tie.Need-refused-requires
-refused-requires c κs = search needs
-
--- src/lib.rt:262:9
 returns : tie.Need-returns
-returns c = ?
+unfolding pollOf
+returns c =
+    let s = c .before .before .before .before .before .args .s in
+    let e = rw (c .before .before .why .given .1) at (c .before .before .before .before .guarded .ensures) in
+    c .refused .ensures ∙ sym (stopped s (c .before .before .why .given .0 .0) e s _)
 
-enum-told : tie.Need-enum-told
-enum-told c = search needs
+-- a poll of a sound set, by what the handle names
+polls : (s : Set) (h : Handle) (t : Option Timing) → soundOf s ≡ true → t ≡ liveAt s h
+    → alive s t (λ t. gives s (polled (pollBy (Word.pollOf (t .word))))) ≡ pollOf s h
+unfolding pollOf
+polls s h t p e = ap (λ (x : Option Timing). alive s x (λ t. gives s (polled (pollBy (Word.pollOf (t .word)))))) e ∙ sym (through s p s _)
 
--- src/lib.rt:264:11
-named-requires : tie.Need-named-requires
-named-requires c κs = search needs
-
--- src/lib.rt:265:36
-enum-told-2 : tie.Need-enum-told-2
-enum-told-2 c = search needs
-
--- src/lib.rt:265:25
-refused-requires-2 : tie.Need-refused-requires-2
-refused-requires-2 c κs = search needs
-
--- src/lib.rt:266:24
-enum-known-word : tie.Need-enum-known-word
-enum-known-word c = search needs
-
--- src/lib.rt:268:33
-poll-requires : tie.Need-poll-requires
-poll-requires c κs = search needs
-
--- src/lib.rt:258:1
 returns-2 : tie.Need-returns-2
-returns-2 c = ?
+returns-2 c =
+    let s = c .before .before .before .before .before .before .before .args .s in
+    let p = passed s (rw (c .before .before .before .before .enum-told .given .1) at (c .before .before .before .before .before .before .guarded .ensures)) in
+    c .refused2 .ensures
+    ∙ polls s (c .before .before .before .before .before .before .before .args .handle) _ p
+    (rw (c .before .enum-told2 .given .1) at (c .before .before .before .named .ensures))
 
--- src/lib.rt:258:1
 returns-3 : tie.Need-returns-3
-returns-3 c = ?
+returns-3 c =
+    let s = c .before .before .before .before .before .before .before .before .args .s in
+    let e = rw (c .before .before .before .before .before .enum-told .given .1) at (c .before .before .before .before .before .before .before .guarded .ensures) in
+    let p = passed s e in
+    ap (λ (a : Answer ℕ). gives s (polled (pollBy a))) (c .poll .ensures)
+    ∙ polls s (c .before .before .before .before .before .before .before .before .args .handle) _ p
+    (rw (c .before .before .word .given .1) at (c .before .before .before .before .named .ensures))
 
 pub poll-spec : {M : Type 1} → statement M
 poll-spec =
     tie.close
     (tie.spec
-    guarded-requires
-    enum-known-why
-    refused-requires
+    (λ c κs. search needs)
+    (λ c. search needs)
+    (λ c κs. search needs)
     returns
-    enum-told
-    named-requires
-    enum-told-2
-    refused-requires-2
-    enum-known-word
-    poll-requires
+    (λ c. search needs)
+    (λ c κs. search needs)
+    (λ c. search needs)
+    (λ c κs. search needs)
+    (λ c. search needs)
+    (λ c κs. search needs)
     returns-2
     returns-3)

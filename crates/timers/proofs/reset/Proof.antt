@@ -1,73 +1,51 @@
+-- A live timer is reset to the deadline, and a dead handle refused.
+-- Assumes nothing.
+use mathlib.Core.Path.{sym, ap, _∙_}
 use borrow.Author.Needs.{needs}
+use Rattle.state.specs.declared.Set.{Set}
+use Rattle.timers.specs.Calls.{resetOf, gives, nothing}
+use Rattle.timers.proofs.Alive.{turned-away, let-through, as-found, live-place}
 use Rattle.timers.proofs.reset.Statement.{statement}
 use Rattle.timers.proofs.reset.Tie as tie
-use Rattle.timers.proofs.reset.Reads as reads
-use Rattle.timers.proofs.reset.Lts as lts
-use Rattle.timers.proofs.named.Reads as named-reads
-use Rattle.timers.proofs.opened.Reads as opened-reads
-use Rattle.timers.proofs.refused.Reads as refused-reads
-use Rattle.timers.proofs.reset_to.Reads as reset-to-reads
 
--- src/lib.rt:146:34
-opened-requires : tie.Need-opened-requires
-opened-requires c κs = search needs
-
--- src/lib.rt:146:27
-enum-known-why : tie.Need-enum-known-why
-enum-known-why c = search needs
-
--- src/lib.rt:147:9
-refused-requires : tie.Need-refused-requires
-refused-requires c κs = search needs
-
--- src/lib.rt:147:9
 returns : tie.Need-returns
-returns c = ?
+unfolding resetOf
+returns c = c .refused .ensures ∙ sym (turned-away _ _ (c .before .before .why .given .1) (c .before .before .before .before .opened .ensures))
 
-enum-told : tie.Need-enum-told
-enum-told c = search needs
-
--- src/lib.rt:149:11
-named-requires : tie.Need-named-requires
-named-requires c κs = search needs
-
--- src/lib.rt:150:36
-enum-told-2 : tie.Need-enum-told-2
-enum-told-2 c = search needs
-
--- src/lib.rt:150:25
-refused-requires-2 : tie.Need-refused-requires-2
-refused-requires-2 c κs = search needs
-
--- src/lib.rt:151:24
-enum-known-word : tie.Need-enum-known-word
-enum-known-word c = search needs
-
--- src/lib.rt:152:18
 reset-to-requires : tie.Need-reset-to-requires
-reset-to-requires c κs = ?
+reset-to-requires c κs = live-place _ _ (c .before .word .given .1) (c .before .before .before .named .ensures)
 
--- src/lib.rt:143:1
 returns-2 : tie.Need-returns-2
-returns-2 c = ?
+unfolding resetOf
+returns-2 c =
+    let n = c .before .before .before in
+    c .refused2 .ensures
+    ∙ sym
+    (let-through _ _ (n .before .enum-told .given .1) (n .before .before .before .opened .ensures)
+    ∙ as-found _ _ _ (c .before .enum-told2 .given .1) (n .named .ensures))
 
--- src/lib.rt:143:1
 returns-3 : tie.Need-returns-3
-returns-3 c = ?
+unfolding resetOf
+returns-3 c =
+    let n = c .before .before .before .before in
+    ap (λ (g : Set). gives g nothing) (c .reset-to .ensures)
+    ∙ sym
+    (let-through _ _ (n .before .enum-told .given .1) (n .before .before .before .opened .ensures)
+    ∙ as-found _ _ _ (c .before .before .word .given .1) (n .named .ensures))
 
 pub reset-spec : {M : Type 1} → statement M
 reset-spec =
     tie.close
     (tie.spec
-    opened-requires
-    enum-known-why
-    refused-requires
+    (λ c κs. search needs)
+    (λ c. search needs)
+    (λ c κs. search needs)
     returns
-    enum-told
-    named-requires
-    enum-told-2
-    refused-requires-2
-    enum-known-word
+    (λ c. search needs)
+    (λ c κs. search needs)
+    (λ c. search needs)
+    (λ c κs. search needs)
+    (λ c. search needs)
     reset-to-requires
     returns-2
     returns-3)

@@ -1,99 +1,74 @@
+-- A live timer is reset to what the interval's rule says, fired or not, or refused as that is.
+-- Assumes nothing.
+use mathlib.Core.Path.{sym, ap, _∙_}
 use borrow.Author.Needs.{needs}
+use Rattle.state.specs.declared.Set.{Set}
+use Rattle.timers.specs.Calls.{restartAt, gives, nothing}
+use Rattle.timers.proofs.Alive.{turned-away, let-through, as-found, as-restarted, live-place}
 use Rattle.timers.proofs.restart.Statement.{statement}
 use Rattle.timers.proofs.restart.Tie as tie
-use Rattle.timers.proofs.restart.Reads as reads
-use Rattle.timers.proofs.restart.Lts as lts
-use Rattle.interval.proofs.restarted.Reads as restarted-reads
-use Rattle.timers.proofs.named.Reads as named-reads
-use Rattle.timers.proofs.opened.Reads as opened-reads
-use Rattle.timers.proofs.refused.Reads as refused-reads
-use Rattle.timers.proofs.reset_to.Reads as reset-to-reads
 
--- src/lib.rt:314:34
-opened-requires : tie.Need-opened-requires
-opened-requires c κs = search needs
-
--- src/lib.rt:314:27
-enum-known-why : tie.Need-enum-known-why
-enum-known-why c = search needs
-
--- src/lib.rt:315:9
-refused-requires : tie.Need-refused-requires
-refused-requires c κs = search needs
-
--- src/lib.rt:315:9
 returns : tie.Need-returns
-returns c = ?
+unfolding restartAt
+returns c = c .refused .ensures ∙ sym (turned-away _ _ (c .before .before .why .given .1) (c .before .before .before .before .opened .ensures))
 
-enum-told : tie.Need-enum-told
-enum-told c = search needs
-
--- src/lib.rt:317:11
-named-requires : tie.Need-named-requires
-named-requires c κs = search needs
-
--- src/lib.rt:318:36
-enum-told-2 : tie.Need-enum-told-2
-enum-told-2 c = search needs
-
--- src/lib.rt:318:25
-refused-requires-2 : tie.Need-refused-requires-2
-refused-requires-2 c κs = search needs
-
--- src/lib.rt:319:24
-enum-known-word : tie.Need-enum-known-word
-enum-known-word c = search needs
-
--- src/lib.rt:319:48
-restarted-requires : tie.Need-restarted-requires
-restarted-requires c κs = search needs
-
--- src/lib.rt:320:22
-enum-known-next : tie.Need-enum-known-next
-enum-known-next c = search needs
-
--- src/lib.rt:321:22
 reset-to-requires : tie.Need-reset-to-requires
-reset-to-requires c κs = ?
+reset-to-requires c κs =
+    let w = c .before .before .before .before .before in
+    let n = w .before .before in
+    live-place _ _ (w .word .given .1) (n .named .ensures)
 
--- src/lib.rt:324:27
-enum-known-why-2 : tie.Need-enum-known-why-2
-enum-known-why-2 c = search needs
-
--- src/lib.rt:324:35
-refused-requires-3 : tie.Need-refused-requires-3
-refused-requires-3 c κs = search needs
-
--- src/lib.rt:311:1
 returns-2 : tie.Need-returns-2
-returns-2 c = ?
+unfolding restartAt
+returns-2 c =
+    let n = c .before .before .before in
+    c .refused2 .ensures
+    ∙ sym
+    (let-through _ _ (n .before .enum-told .given .1) (n .before .before .before .opened .ensures)
+    ∙ as-found _ _ _ (c .before .enum-told2 .given .1) (n .named .ensures))
 
--- src/lib.rt:311:1
 returns-3 : tie.Need-returns-3
-returns-3 c = ?
+unfolding restartAt
+returns-3 c =
+    let w = c .before .before .before .before .before .before in
+    let n = w .before .before in
+    let a = n .before .before .before .before .args in
+    ap (λ (g : Set). gives g nothing) (c .reset-to .ensures)
+    ∙ sym
+    (let-through _ _ (n .before .enum-told .given .1) (n .before .before .before .opened .ensures)
+    ∙ as-found _ _ _ (w .word .given .1) (n .named .ensures)
+    ∙ as-restarted (a .s) (a .handle) (a .period) (a .reading) _ (c .before .before .next .given .1) (c .before .before .before .before .restarted .ensures))
 
--- src/lib.rt:311:1
 returns-4 : tie.Need-returns-4
-returns-4 c = ?
+unfolding restartAt
+returns-4 c =
+    let w = c .before .before .before .before .before .before in
+    let n = w .before .before in
+    let a = n .before .before .before .before .args in
+    c .refused3 .ensures
+    ∙ sym
+    (let-through _ _ (n .before .enum-told .given .1) (n .before .before .before .opened .ensures)
+    ∙ as-found _ _ _ (w .word .given .1) (n .named .ensures)
+    ∙ as-restarted (a .s) (a .handle) (a .period) (a .reading) _ (c .before .before .why2 .given .1) (c .before .before .before .before .restarted .ensures))
 
 pub restart-spec : {M : Type 1} → statement M
 restart-spec =
     tie.close
     (tie.spec
-    opened-requires
-    enum-known-why
-    refused-requires
+    (λ c κs. search needs)
+    (λ c. search needs)
+    (λ c κs. search needs)
     returns
-    enum-told
-    named-requires
-    enum-told-2
-    refused-requires-2
-    enum-known-word
-    restarted-requires
-    enum-known-next
+    (λ c. search needs)
+    (λ c κs. search needs)
+    (λ c. search needs)
+    (λ c κs. search needs)
+    (λ c. search needs)
+    (λ c κs. search needs)
+    (λ c. search needs)
     reset-to-requires
-    enum-known-why-2
-    refused-requires-3
+    (λ c. search needs)
+    (λ c κs. search needs)
     returns-2
     returns-3
     returns-4)

@@ -1,115 +1,95 @@
+-- A live timer that has fired answers its deadline and is reset to what the interval's rule says, or refused as that is.
+-- Assumes nothing.
+use mathlib.Core.Path.{sym, ap, _∙_}
 use borrow.Author.Needs.{needs}
+use borrow.Author.Tests.{not-true, not-false}
+use Rattle.state.specs.declared.Set.{Set}
+use Rattle.timers.specs.Calls.{tickAt, gives, time}
+use Rattle.timers.proofs.Alive.{turned-away, let-through, as-found, as-timed, live-place}
 use Rattle.timers.proofs.tick.Statement.{statement}
 use Rattle.timers.proofs.tick.Tie as tie
-use Rattle.timers.proofs.tick.Reads as reads
-use Rattle.timers.proofs.tick.Lts as lts
-use Rattle.interval.proofs.next_deadline.Reads as next-deadline-reads
-use Rattle.timers.proofs.named.Reads as named-reads
-use Rattle.timers.proofs.opened.Reads as opened-reads
-use Rattle.timers.proofs.refused.Reads as refused-reads
-use Rattle.timers.proofs.reset_to.Reads as reset-to-reads
-use Rattle.word.proofs.fired.Reads as fired-reads
 
--- src/lib.rt:290:34
-opened-requires : tie.Need-opened-requires
-opened-requires c κs = search needs
-
--- src/lib.rt:290:27
-enum-known-why : tie.Need-enum-known-why
-enum-known-why c = search needs
-
--- src/lib.rt:291:9
-refused-requires : tie.Need-refused-requires
-refused-requires c κs = search needs
-
--- src/lib.rt:291:9
 returns : tie.Need-returns
-returns c = ?
+unfolding tickAt
+returns c = c .refused .ensures ∙ sym (turned-away _ _ (c .before .before .why .given .1) (c .before .before .before .before .opened .ensures))
 
-enum-told : tie.Need-enum-told
-enum-told c = search needs
-
--- src/lib.rt:293:11
-named-requires : tie.Need-named-requires
-named-requires c κs = search needs
-
--- src/lib.rt:294:36
-enum-told-2 : tie.Need-enum-told-2
-enum-told-2 c = search needs
-
--- src/lib.rt:294:25
-refused-requires-2 : tie.Need-refused-requires-2
-refused-requires-2 c κs = search needs
-
--- src/lib.rt:295:24
-enum-known-word : tie.Need-enum-known-word
-enum-known-word c = search needs
-
--- src/lib.rt:296:17
-fired-requires : tie.Need-fired-requires
-fired-requires c κs = search needs
-
--- src/lib.rt:297:17
-refused-requires-3 : tie.Need-refused-requires-3
-refused-requires-3 c κs = search needs
-
--- src/lib.rt:297:17
 returns-2 : tie.Need-returns-2
-returns-2 c = ?
+unfolding tickAt
+returns-2 c =
+    let w = c .before .before .before .before in
+    let n = w .before .before in
+    c .refused3 .ensures
+    ∙ sym
+    (let-through _ _ (n .before .enum-told .given .1) (n .before .before .before .opened .ensures)
+    ∙ as-found _ _ _ (w .word .given .1) (n .named .ensures)
+    ∙ rw (sym (c .before .before .fired .ensures) ∙ not-true _ (c .before .if1 .taken)))
 
--- src/lib.rt:299:19
-next-deadline-requires : tie.Need-next-deadline-requires
-next-deadline-requires c κs = search needs
-
--- src/lib.rt:300:26
-enum-known-next : tie.Need-enum-known-next
-enum-known-next c = search needs
-
--- src/lib.rt:301:26
 reset-to-requires : tie.Need-reset-to-requires
-reset-to-requires c κs = ?
+reset-to-requires c κs =
+    let w = c .before .before .before .before .before .before .before in
+    let n = w .before .before in
+    live-place _ _ (w .word .given .1) (n .named .ensures)
 
--- src/lib.rt:304:31
-enum-known-why-2 : tie.Need-enum-known-why-2
-enum-known-why-2 c = search needs
-
--- src/lib.rt:304:39
-refused-requires-4 : tie.Need-refused-requires-4
-refused-requires-4 c κs = search needs
-
--- src/lib.rt:287:1
 returns-3 : tie.Need-returns-3
-returns-3 c = ?
+unfolding tickAt
+returns-3 c =
+    let n = c .before .before .before in
+    c .refused2 .ensures
+    ∙ sym
+    (let-through _ _ (n .before .enum-told .given .1) (n .before .before .before .opened .ensures)
+    ∙ as-found _ _ _ (c .before .enum-told2 .given .1) (n .named .ensures))
 
--- src/lib.rt:287:1
 returns-4 : tie.Need-returns-4
-returns-4 c = ?
+unfolding tickAt
+returns-4 c =
+    let d = c .before .before .before .before in
+    let w = d .before .before .before .before in
+    let n = w .before .before in
+    let a = n .before .before .before .before .args in
+    let v = w .word .given .0 in
+    ap (λ (g : Set). gives g (time (v .1 .0))) (c .reset-to .ensures)
+    ∙ sym
+    (let-through _ _ (n .before .enum-told .given .1) (n .before .before .before .opened .ensures)
+    ∙ as-found _ _ _ (w .word .given .1) (n .named .ensures)
+    ∙ as-timed (a .s) (a .handle) (a .policy) (a .period) (a .reading) (record { word = v .0; due = v .1 .0 })
+    (not-false _ (d .before .if1 .left)) (d .before .before .fired .ensures) (c .before .before .next .given .1) (d .next-deadline .ensures))
 
--- src/lib.rt:287:1
 returns-5 : tie.Need-returns-5
-returns-5 c = ?
+unfolding tickAt
+returns-5 c =
+    let d = c .before .before .before .before in
+    let w = d .before .before .before .before in
+    let n = w .before .before in
+    let a = n .before .before .before .before .args in
+    let v = w .word .given .0 in
+    c .refused4 .ensures
+    ∙ sym
+    (let-through _ _ (n .before .enum-told .given .1) (n .before .before .before .opened .ensures)
+    ∙ as-found _ _ _ (w .word .given .1) (n .named .ensures)
+    ∙ as-timed (a .s) (a .handle) (a .policy) (a .period) (a .reading) (record { word = v .0; due = v .1 .0 })
+    (not-false _ (d .before .if1 .left)) (d .before .before .fired .ensures) (c .before .before .why2 .given .1) (d .next-deadline .ensures))
 
 pub tick-spec : {M : Type 1} → statement M
 tick-spec =
     tie.close
     (tie.spec
-    opened-requires
-    enum-known-why
-    refused-requires
+    (λ c κs. search needs)
+    (λ c. search needs)
+    (λ c κs. search needs)
     returns
-    enum-told
-    named-requires
-    enum-told-2
-    refused-requires-2
-    enum-known-word
-    fired-requires
-    refused-requires-3
+    (λ c. search needs)
+    (λ c κs. search needs)
+    (λ c. search needs)
+    (λ c κs. search needs)
+    (λ c. search needs)
+    (λ c κs. search needs)
+    (λ c κs. search needs)
     returns-2
-    next-deadline-requires
-    enum-known-next
+    (λ c κs. search needs)
+    (λ c. search needs)
     reset-to-requires
-    enum-known-why-2
-    refused-requires-4
+    (λ c. search needs)
+    (λ c κs. search needs)
     returns-3
     returns-4
     returns-5)

@@ -1,68 +1,73 @@
+-- A set that is let through is sound, and its heap is so after the drain too, so that its entries may be popped; the list is long
+-- enough. Else the call is refused and the list is as it was.
+-- Assumes nothing.
+use mathlib.Core.Path.{_≡_, sym, ap, subst, _∙_}
 use borrow.Author.Needs.{needs}
+use denote.Ref.{now}
+use lib.ListN.{length}
+use Rattle.theory.proofs.Stores.{unmapped}
+use Rattle.heap.specs.Capacity.{cap}
+use Rattle.heap.specs.Sound as Heap
+use Rattle.state.specs.declared.Set.{Set}
+use Rattle.moves.specs.Rules.{Ring, drainedOf, advancedOf}
+use Rattle.moves.proofs.DrainLaws.{drained-heap}
+use Rattle.timers.specs.Calls.{rang, turnOf}
+use Rattle.timers.proofs.Guarding.{passed-both}
+use Rattle.timers.proofs.Sounding.{set-sound}
+use Rattle.timers.proofs.Lending.{turned-away, too-short, long-enough}
 use Rattle.timers.proofs.turn.Statement.{statement}
 use Rattle.timers.proofs.turn.Tie as tie
-use Rattle.timers.proofs.turn.Reads as reads
-use Rattle.timers.proofs.turn.Lts as lts
-use Rattle.timers.proofs.opened.Reads as opened-reads
-use Rattle.timers.proofs.refused.Reads as refused-reads
-use Rattle.timers.proofs.rings.advanced.Reads as advanced-reads
-use Rattle.timers.proofs.updates.drained.Reads as drained-reads
 
--- src/lib.rt:216:34
-opened-requires : tie.Need-opened-requires
-opened-requires c κs = search needs
-
--- src/lib.rt:216:27
-enum-known-why : tie.Need-enum-known-why
-enum-known-why c = search needs
-
--- src/lib.rt:217:9
-refused-requires : tie.Need-refused-requires
-refused-requires c κs = search needs
-
--- src/lib.rt:217:9
 returns : tie.Need-returns
-returns c = ?
+unfolding turnOf
+returns c =
+    let a = c .before .before .before .before .before .before .args in
+    turned-away (a .s) (now (a .list)) _ (c .before .before .why .given .0 .0) (c .refused .result)
+    (rw (c .before .before .why .given .1) at (c .before .before .before .before .opened .ensures)) (c .refused .ensures)
 
-enum-told : tie.Need-enum-told
-enum-told c = search needs
-
--- src/lib.rt:220:9
-refused-requires-2 : tie.Need-refused-requires-2
-refused-requires-2 c κs = search needs
-
--- src/lib.rt:220:9
 returns-2 : tie.Need-returns-2
-returns-2 c = ?
+unfolding turnOf
+returns-2 c =
+    let a = c .before .before .before .before .before .before .args in
+    let p = passed-both (a .s) (rw (c .before .before .enum-told .given .1) at (c .before .before .before .before .opened .ensures)) in
+    too-short (a .s) (now (a .list)) _ (c .refused2 .result) p (c .before .if1 .taken) (c .refused2 .ensures)
 
--- src/lib.rt:222:29
 drained-requires : tie.Need-drained-requires
-drained-requires c κs = ?
+drained-requires c κs =
+    let s = c .before .before .before .before .before .args .s in
+    let n : length (s .timers) ≡ cap = search (needs, unmapped) in
+    let m : length (s .heap .entries) ≡ cap = search (needs, unmapped) in
+    let k : length (s .heap .slots) ≡ cap = search (needs, unmapped) in
+    set-sound s n m k (passed-both s (rw (c .before .enum-told .given .1) at (c .before .before .before .opened .ensures)) .0)
 
--- src/lib.rt:222:9
 advanced-requires : tie.Need-advanced-requires
-advanced-requires c κs = ?
+advanced-requires c κs =
+    let s = c .before .before .before .before .before .before .before .args .s in
+    let h = drained-heap cap s (drained-requires (c .before .before) tt) in
+    (subst (λ (g : Set). Heap.Sound (g .heap)) (sym (c .before .drained .ensures)) h, c .before .before .if1 .left)
 
--- src/lib.rt:213:1
-same-length : tie.Need-same-length
-same-length c = search needs
-
--- src/lib.rt:213:1
 returns-3 : tie.Need-returns-3
-returns-3 c = ?
+unfolding turnOf
+returns-3 c =
+    let d = c .before .before .before .before .before in
+    let a = d .before .before .before .before .before .before .args in
+    let p = passed-both (a .s) (rw (d .before .before .enum-told .given .1) at (d .before .before .before .before .opened .ensures)) in
+    ap (λ (r : Ring). rang r)
+    (c .before .before .before .advanced .ensures ∙ ap (λ (g : Set). advancedOf g (a .reading) (now (a .list))) (d .drained .ensures))
+    ∙ long-enough (a .s) (now (a .list)) (rang (advancedOf (drainedOf (a .s)) (a .reading) (now (a .list)))) p (d .before .if1 .left)
 
 pub turn-spec : {M : Type 1} → statement M
 turn-spec =
     tie.close
     (tie.spec
-    opened-requires
-    enum-known-why
-    refused-requires
+    (λ c κs. search needs)
+    (λ c. search needs)
+    (λ c κs. search needs)
     returns
-    enum-told
-    refused-requires-2
+    (λ c. search needs)
+    (λ c κs. search needs)
     returns-2
     drained-requires
     advanced-requires
-    same-length
+    (λ c. search needs)
     returns-3)
