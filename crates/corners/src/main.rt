@@ -16,6 +16,22 @@ use state::Set;
 use state::Timer;
 use state::Waiting;
 use timers::Reply;
+use word::Polled;
+
+// Writes what a poll found.
+fn tell_poll(polled: Polled) {
+    match polled {
+        Polled::Pending => {
+            io::write_all(STDOUT_FILENO, b"pending");
+        }
+        Polled::Fired => {
+            io::write_all(STDOUT_FILENO, b"fired");
+        }
+        Polled::Gone => {
+            io::write_all(STDOUT_FILENO, b"gone");
+        }
+    }
+}
 
 // Writes what a call answered, and ends the line.
 fn tell(reply: Reply) {
@@ -45,8 +61,12 @@ fn tell(reply: Reply) {
         Reply::Done => {
             io::write_all(STDOUT_FILENO, b"done");
         }
-        _ => {
-            io::write_all(STDOUT_FILENO, b"something else");
+        Reply::Found(polled) => {
+            tell_poll(polled);
+        }
+        Reply::Ticked(at) => {
+            io::write_all(STDOUT_FILENO, b"ticked ");
+            io::print_decimal(STDOUT_FILENO, at);
         }
     }
     io::write_all(STDOUT_FILENO, b"\n");
@@ -110,6 +130,18 @@ fn with_heap(s: Set, h: Heap) -> Set {
     g
 }
 
+// The set closed, with another head of the list.
+fn closed(s: Set, first: First) -> Set {
+    let h = s.heap;
+    let ts = s.timers;
+    Set {
+        heap: h,
+        timers: ts,
+        first,
+        closed: true,
+    }
+}
+
 // Sound sets that no call leads to.
 fn sound_ones() {
     io::write_all(STDOUT_FILENO, b"place 0 retired: add ");
@@ -150,6 +182,17 @@ fn sound_ones() {
     ));
     let q = c.reply;
     tell(q);
+    io::write_all(STDOUT_FILENO, b"and a poll of it then ");
+    let g = c.set;
+    let p = timers::poll(
+        g,
+        Handle {
+            place: Place(0),
+            uses: 0,
+        },
+    );
+    let u = p.reply;
+    tell(u);
 }
 
 // Unsound sets, one of each kind.
@@ -197,6 +240,23 @@ fn unsound_ones() {
     wake(with_timer(Life::Free, Waiting::No, Held::At(Slot(0)), 0));
     io::write_all(STDOUT_FILENO, b"place, an entry of generation 2^30: ");
     wake(with_heap(live, one(entry(5, 1_073_741_824, 0))));
+    io::write_all(STDOUT_FILENO, b"place, an entry of a place past the last: ");
+    let mut far = entry(5, 0, 0);
+    let past = Place(64);
+    far.place = past;
+    wake(with_heap(state::fresh(), one(far)));
+    io::write_all(
+        STDOUT_FILENO,
+        b"place, a closed set in which a timer waits: ",
+    );
+    let shut = with_timer(
+        Life::Live { word: 2, due: 5 },
+        Waiting::Last,
+        Held::Nothing,
+        0,
+    );
+    let waits = First::At(Place(0));
+    wake(closed(shut, waits));
     io::write_all(STDOUT_FILENO, b"place, an invalid mark in an open set: ");
     wake(with_timer(
         Life::Live { word: 2, due: 5 },

@@ -1,3 +1,4 @@
 pub mod DrainLaws
 pub mod RingLaws
 pub mod CloseLaws
+pub mod NoSecond

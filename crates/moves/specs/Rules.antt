@@ -1,5 +1,5 @@
 -- The rules of the timers, as functions on the very values that the code holds: what one update, one drain, one pop, one close
--- does to a set. Refusals are in Calls.
+-- does to a set. The calls with their refusals are in `timers`.
 -- Assumes nothing.
 use mathlib.Core.Bool.{Bool, true, false, not, cond, _&&_}
 use mathlib.Core.Option.{Option, none, some}

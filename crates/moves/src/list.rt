@@ -8,7 +8,8 @@ use state::Waiting;
 ghost use mathlib.Core.Path.{_≡_};
 ghost use Prim.Native.Nat.{_<_};
 ghost use Rattle.heap.specs.Capacity.{cap};
-ghost use Rattle.moves.specs.Rules.{linkTo, touchedOf, isFree, lowestFree, spotOf};
+ghost use Rattle.moves.specs.Rules.{linkTo, isFree};
+ghost use Rattle.moves.specs.Promises.{Touches, FindsFree};
 
 // Where a timer can be put.
 pub enum Spot {
@@ -19,7 +20,7 @@ pub enum Spot {
 // The timer at a place gets a new life and is pushed on the list. One that waits already stays where it is in the list.
 pub fn touched(s: Set, p: usize, life: Life) -> Set
     requires { ⌜ p < cap ⌝ }
-    ensures { λ r. ⌜ r ≡ touchedOf s p life ⌝ }
+    ensures { λ r. ⌜ Touches s p life r ⌝ }
 {
     let place = Place(p as u16);
     let h = s.heap;
@@ -58,7 +59,7 @@ pub fn touched(s: Set, p: usize, life: Life) -> Set
 
 // The lowest free place.
 pub fn lowest_free(s: Set) -> Spot
-    ensures { λ r. ⌜ spotOf r ≡ lowestFree s ⌝ }
+    ensures { λ r. ⌜ FindsFree s r ⌝ }
 {
     let mut p: usize = 0;
     while p < heap::CAP {

@@ -8,12 +8,13 @@ use state::Waiting;
 ghost use mathlib.Core.Path.{_≡_};
 ghost use Rattle.heap.specs.Sound.{Sound};
 ghost use Rattle.heap.specs.Capacity.{cap};
-ghost use Rattle.moves.specs.Rules.{markedLife, unlistFrom, emptyFrom, closedOf};
+ghost use Rattle.moves.specs.Rules.{markedLife, unlistFrom, emptyFrom};
+ghost use Rattle.moves.specs.Promises.{Shuts};
 
 // The set closed.
 pub fn closed(s: Set) -> Set
     requires { ⌜ Sound (s .heap) ⌝ }
-    ensures { λ r. ⌜ r ≡ closedOf s ⌝ }
+    ensures { λ r. ⌜ Shuts s r ⌝ }
 {
     let g = emptied(unlisted(s));
     let h = g.heap;

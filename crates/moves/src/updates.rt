@@ -9,13 +9,14 @@ use state::Timer;
 use state::Waiting;
 ghost use mathlib.Core.Path.{_≡_};
 ghost use Rattle.heap.specs.Sound.{Sound};
-ghost use Rattle.moves.specs.Rules.{droppedOf, heldBy, freedOf, settledOf, drainedOf};
+ghost use Rattle.moves.specs.Rules.{droppedOf, heldBy, freedOf, settledOf};
+ghost use Rattle.moves.specs.Promises.{Settles};
 ghost use Rattle.heap.specs.Calls.{saidPush};
 
 // Every update is made.
 pub fn drained(s: Set) -> Set
     requires { ⌜ Sound (s .heap) ⌝ }
-    ensures { λ r. ⌜ r ≡ drainedOf s ⌝ }
+    ensures { λ r. ⌜ Settles s r ⌝ }
 {
     let mut g = s;
     let mut left: usize = heap::CAP;

@@ -1,4 +1,4 @@
--- The fresh set is sound, so what the calls require can be met.
+-- The fresh set is sound.
 -- Assumes nothing.
 use mathlib.Core.Path.{_≡_, ap}
 use mathlib.Core.Bool.{false, false≢true}

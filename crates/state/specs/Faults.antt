@@ -1,5 +1,5 @@
--- The test of soundness: scans that stop at the first fault, its kind and where it is. The heap's four kinds come first, then the
--- list, then the places.
+-- The test of soundness: the first fault, its kind and where it is. The heap's four kinds come first, then the list, then the
+-- places, the lowest one at fault.
 -- Assumes nothing.
 use mathlib.Core.Bool.{Bool, true, false, not, cond, _&&_, _||_}
 use mathlib.Core.Option.{Option, none, some}

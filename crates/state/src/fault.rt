@@ -1,4 +1,5 @@
-// The test of soundness: what is wrong with a set, as scans that stop at the first fault. It is total on any value.
+// The test of soundness: what is wrong with a set, as scans that stop at the first fault; that of the heap entries looks for the
+// lowest place number among those at fault. It is total on any value.
 use crate::First;
 use crate::Held;
 use crate::Life;
