@@ -1,6 +1,5 @@
 -- A handle names its place's timer where the place is in range, the use number is the place's, and the timer is live.
 -- Assumes nothing.
-use mathlib.Core.Path.{sym, _∙_}
 use borrow.Author.Needs.{needs}
 use borrow.Author.Tests.{lt-ltb, le-ltb, eq-eqb, ne-eqb}
 use Rattle.timers.specs.Calls.{liveAt}

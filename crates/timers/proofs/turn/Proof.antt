@@ -2,6 +2,8 @@
 -- enough. Else the call is refused and the list is as it was.
 -- Assumes nothing.
 use mathlib.Core.Path.{_≡_, sym, ap, subst, _∙_}
+use Prim.Native.Nat.{_<_}
+use native.Mathlib.Omega.{arith}
 use borrow.Author.Needs.{needs}
 use denote.Ref.{now}
 use lib.ListN.{length}
@@ -30,7 +32,8 @@ unfolding turnOf
 returns-2 c =
     let a = c .before .before .before .before .before .before .args in
     let p = passed-both (a .s) (rw (c .before .before .enum-told .given .1) at (c .before .before .before .before .opened .ensures)) in
-    too-short (a .s) (now (a .list)) _ (c .refused2 .result) p (c .before .if1 .taken) (c .refused2 .ensures)
+    let n : length (now (a .list)) < cap = omega (arith, c .before .if1 .taken) in
+    too-short (a .s) (now (a .list)) _ (c .refused2 .result) p n (c .refused2 .ensures)
 
 drained-requires : tie.Need-drained-requires
 drained-requires c κs =
