@@ -21,17 +21,17 @@ use Rattle.heap.specs.declared.SlotState.the-variants.{Full, Empty}
 use Rattle.heap.specs.declared.Pos.{Pos}
 use Rattle.heap.specs.declared.Place.{Place}
 use Rattle.heap.specs.declared.Heap.{Heap}
-use Rattle.heap.specs.Rules.{noEntry, entryAt, stateAt, items, key, pushedOf, vacatedOf, filledOf, removedOf}
+use Rattle.heap.specs.Rules.{noEntry, entryAt, stateAt, items, key, newEntry, pushedOf, vacatedOf, filledOf, removedOf}
 use Rattle.heap.specs.Sound.{Sound}
 use Rattle.heap.specs.Calls.{heightOf, Off, pushSound, removeBy, removeSound, popSound}
 use Rattle.heap.proofs.SoundFacts.{full-back}
 use Rattle.heap.proofs.Items.{items-length, walked-swaps}
-use Rattle.heap.proofs.ItemsCalls.{entryOf, push-walked, remove-walked}
+use Rattle.heap.proofs.ItemsCalls.{push-walked, remove-walked}
 
 -- a push takes at most as many swaps as the heap is high afterwards
 pub push-bound : (h : Heap) (at g : ℕ) (place : Place) → h .len < length (h .entries) → pushedOf h at g place .swaps ≤ heightOf (h .len + 1)
 push-bound h at g place room =
-    omega (arith, walked-swaps (push-walked h at g place room), push-log key noEntry (items h) (entryOf h at g place), ap (λ (n : ℕ). log2 (n + 1)) (items-length h (omega arith)))
+    omega (arith, walked-swaps (push-walked h at g place room), push-log key noEntry (items h) (newEntry h at g place), ap (λ (n : ℕ). log2 (n + 1)) (items-length h (omega arith)))
 
 module _ (h : Heap) (s : Slot) (p : Pos) (fits : h .len ≤ length (h .entries)) (inside : p .0 < h .len) where
   -- a removal that leaves entries takes at most as many swaps as the heap is high afterwards

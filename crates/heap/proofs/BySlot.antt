@@ -21,16 +21,18 @@ use Rattle.heap.specs.declared.Entry.{Entry}
 use Rattle.heap.specs.declared.SlotState.{SlotState}
 use Rattle.heap.specs.declared.SlotState.the-variants.{Full, Empty}
 use Rattle.heap.specs.declared.Heap.{Heap}
-use Rattle.heap.specs.Rules.{entryAt, stateAt, slotAt, putAt, withLen, addedOf, pushedOf, vacatedOf, removedOf}
+use Rattle.heap.specs.Rules.{entryAt, stateAt, slotAt, putAt, withLen, addedOf, newEntry, pushedOf, vacatedOf, removedOf}
 use Rattle.heap.specs.Faults.{fullAt}
+use Rattle.heap.specs.Lookup.{standing, lookup}
+use Rattle.heap.specs.Slab.{Slab}
 use Rattle.heap.specs.Calls.{freshOf, removeBy, removeSound, popSound}
-use Rattle.heap.proofs.Slab.{Slab, not-full-at}
-use Rattle.heap.proofs.Steps.{newEntry, moveLast, push-by, remove-by}
+use Rattle.heap.proofs.Slab.{not-full-at}
+use Rattle.heap.proofs.Steps.{moveLast, push-by, remove-by}
 use Rattle.heap.proofs.FreeHead.{free-view}
 use Rattle.heap.proofs.Pushing.{grown, grown-last, grown-entry, grown-slot, grown-full, taken-by}
 use Rattle.heap.proofs.Removing.{here, own, gone-state, gone-full, slab-last, fill-entry, fill-other, fill-alike, slab-fill}
 use Rattle.heap.proofs.Kept.{remove-full, pop-head}
-use Rattle.heap.proofs.Lookup.{standing, lookup, lookup-none, lookup-full, lookup-state, lookup-kept, Holds, swaps-hold}
+use Rattle.heap.proofs.Lookup.{lookup-none, lookup-full, lookup-state, lookup-kept, Holds, swaps-hold}
 
 -- two bounds that a number is below of alike
 below-same : (k m n : ℕ) → (k < m → k < n) → (k < n → k < m) → ltb k m ≡ ltb k n

@@ -11,15 +11,15 @@ use Rattle.heap.specs.declared.Pos.{Pos}
 use Rattle.heap.specs.declared.Place.{Place}
 use Rattle.heap.specs.declared.Entry.{Entry}
 use Rattle.heap.specs.declared.Heap.{Heap}
-use Rattle.heap.specs.Rules.{noEntry, entryAt, items, key, pushedOf, removedOf}
+use Rattle.heap.specs.Rules.{noEntry, entryAt, items, key, newEntry, pushedOf, removedOf}
 use Rattle.heap.proofs.Items.{items-length, items-at}
-use Rattle.heap.proofs.ItemsCalls.{entryOf, push-walked, remove-walked}
+use Rattle.heap.proofs.ItemsCalls.{push-walked, remove-walked}
 
 module _ (w : Entry → ℕ) (h : Heap) where
   -- by every weight, a push adds that of its entry
   pub push-adds : (at g : ℕ) (place : Place) → h .len < length (h .entries)
-      → total w (items (pushedOf h at g place .heap)) ≡ total w (items h) + w (entryOf h at g place)
-  push-adds at g place room = rw (push-walked h at g place room .listed) (push-total key noEntry w (items h) (entryOf h at g place))
+      → total w (items (pushedOf h at g place .heap)) ≡ total w (items h) + w (newEntry h at g place)
+  push-adds at g place room = rw (push-walked h at g place room .listed) (push-total key noEntry w (items h) (newEntry h at g place))
 
   -- by every weight, a removal takes that of its entry away
   pub remove-takes : (s : Slot) (p : Pos) → h .len ≤ length (h .entries) → p .0 < h .len

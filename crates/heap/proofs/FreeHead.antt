@@ -17,7 +17,8 @@ use Rattle.heap.specs.declared.SlotState.the-variants.{Empty}
 use Rattle.heap.specs.declared.Heap.{Heap}
 use Rattle.heap.specs.Rules.{stateAt, slotAt, withSlots, takenOf}
 use Rattle.heap.specs.Faults.{fullAt, emptyAt, nextAt}
-use Rattle.heap.proofs.Slab.{Slab, not-full, empty-next}
+use Rattle.heap.specs.Slab.{Slab}
+use Rattle.heap.proofs.Slab.{not-full, empty-next}
 use Rattle.heap.proofs.Spare.{empty-told, empty-tells}
 
 -- where all pass, the count is the bound

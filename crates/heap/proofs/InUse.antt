@@ -19,19 +19,14 @@ use Rattle.heap.specs.declared.SlotState.the-variants as State
 use Rattle.heap.specs.declared.Heap.{Heap}
 use Rattle.heap.specs.Rules.{entryAt, stateAt}
 use Rattle.heap.specs.Sound.{Sound}
+use Rattle.heap.specs.InUse.{Twins, SameOutcome}
 use Rattle.heap.specs.Calls.{guardOf, guarded, pushSound, removeBy, removeSound, popSound, peekSound, pushOf, removeOf, popOf, peekOf}
 use Rattle.heap.proofs.SoundFacts.{full-back}
 use Rattle.heap.proofs.Slab.{sound-slab}
 use Rattle.heap.proofs.Guarding.{guarded-is}
 use Rattle.heap.proofs.Test.{sound-test, consistent-sound, sound-consistent}
 use Rattle.heap.proofs.InUseTest.{consistent-in-use}
-use Rattle.heap.proofs.InUseStores.{Twins}
 use Rattle.heap.proofs.InUseWalks.{choose-ref, pushed-in-use, removed-in-use}
-
--- the same answer, and heaps that differ only in room not in use
-pub record SameOutcome {A : Type 0} (o q : Outcome Heap A) : Type 0 where
-  pub answers : o .answer ≡ q .answer
-  pub states : Twins (o .state) (q .state)
 
 module _ (g h : Heap) (r : Twins g h) where
   -- where one is sound the other is

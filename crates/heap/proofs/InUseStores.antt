@@ -7,29 +7,16 @@ use mathlib.Core.List.{List, [], _∷_}
 use Prim.Native.Nat.{ℕ, zero, suc, _+_, _<_, _≤_}
 use native.Mathlib.Omega.{arith}
 use lib.ListN.{length, getD, set, length-set}
-use Rattle.heap.specs.Capacity.{cap}
 use Rattle.heap.specs.declared.Slot.{Slot}
 use Rattle.heap.specs.declared.Place.{Place}
 use Rattle.heap.specs.declared.Entry.{Entry}
 use Rattle.heap.specs.declared.SlotState.the-variants.{Empty}
 use Rattle.heap.specs.declared.SlabSlot.{SlabSlot}
 use Rattle.heap.specs.declared.Heap.{Heap}
-use Rattle.heap.specs.Rules.{noEntry, noSlot, entryAt, stateAt, putAt, swapAt, withSlots, takenOf, withLen, addedOf, vacatedOf}
-use Rattle.heap.specs.InUse.{SameInUse}
-use Rattle.heap.proofs.Slab.{Slab}
+use Rattle.heap.specs.Rules.{noEntry, noSlot, entryAt, stateAt, putAt, swapAt, withSlots, takenOf, withLen, addedOf, vacatedOf, newEntry}
+use Rattle.heap.specs.Slab.{Slab}
+use Rattle.heap.specs.InUse.{Twins}
 use Rattle.heap.proofs.FreeHead.{free-view, taken-new, taken-old}
-use Rattle.heap.proofs.Steps.{newEntry}
-
--- the arrays have the capacity, as the code's types say
-pub record Long (h : Heap) : Type 0 where
-  pub entries-long : length (h .entries) ≡ cap
-  pub slots-long : length (h .slots) ≡ cap
-
--- two heaps of the code that differ only in room not in use
-pub record Twins (g h : Heap) : Type 0 where
-  pub same : SameInUse g h
-  pub left : Long g
-  pub right : Long h
 
 -- stores at the same place of lists of one length leave what is read there the same, and elsewhere what was the same
 set-agree : {A B : Type 0} (f : A → B) (l m : List A) (i k : ℕ) (a d : A) → length l ≡ length m

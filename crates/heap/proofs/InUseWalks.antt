@@ -16,12 +16,12 @@ use Rattle.heap.specs.declared.Place.{Place}
 use Rattle.heap.specs.declared.Entry.{Entry}
 use Rattle.heap.specs.declared.Heap.{Heap}
 use Rattle.heap.specs.declared.walk.Moved.{Moved}
-use Rattle.heap.specs.Rules.{entryAt, before, putAt, swapAt, moved, risesAt, upFrom, pickChild, childOf, downFrom, takenOf, withLen, addedOf, pushedOf, vacatedOf, filledOf, removedOf}
+use Rattle.heap.specs.Rules.{entryAt, before, putAt, swapAt, moved, risesAt, upFrom, pickChild, childOf, downFrom, takenOf, withLen, addedOf, newEntry, pushedOf, vacatedOf, filledOf, removedOf}
+use Rattle.heap.specs.Slab.{Slab}
+use Rattle.heap.specs.InUse.{Twins}
 use Rattle.heap.proofs.Items.{choose}
 use Rattle.heap.proofs.Laws.{len-put, len-swap, len-added, len-taken, len-vacated, child-below}
-use Rattle.heap.proofs.Slab.{Slab}
-use Rattle.heap.proofs.Steps.{newEntry}
-use Rattle.heap.proofs.InUseStores.{Twins, put-twins, short-twins, vacated-twins, swap-twins, added-twins}
+use Rattle.heap.proofs.InUseStores.{put-twins, short-twins, vacated-twins, swap-twins, added-twins}
 
 -- walks that took as many swaps, and left heaps that differ only in room not in use
 pub record SameMoved (m n : Moved) : Type 0 where

@@ -16,14 +16,10 @@ use Rattle.heap.specs.declared.Pos.{Pos}
 use Rattle.heap.specs.declared.Place.{Place}
 use Rattle.heap.specs.declared.Entry.{Entry}
 use Rattle.heap.specs.declared.Heap.{Heap}
-use Rattle.heap.specs.Rules.{noEntry, entryAt, items, key, before, putAt, upFrom, downFrom, takenOf, withLen, addedOf, pushedOf, vacatedOf, filledOf, removedOf}
+use Rattle.heap.specs.Rules.{noEntry, entryAt, items, key, before, putAt, upFrom, downFrom, takenOf, withLen, addedOf, newEntry, pushedOf, vacatedOf, filledOf, removedOf}
 use Rattle.heap.proofs.Items.{items-length, items-at, items-put, put-len, put-long, Walked, walked-stay, walked-as, choose}
 use Rattle.heap.proofs.ItemsUp.{up-walked}
 use Rattle.heap.proofs.ItemsDown.{down-walked}
-
--- the entry that a push makes: its slot is the free head
-abbrev pub entryOf : Heap → ℕ → ℕ → Place → Entry
-entryOf h at g place = record { at = at; generation = g; place = place; slot = h .free }
 
 module _ (h : Heap) (e : Entry) where
   -- one entry more
@@ -43,10 +39,10 @@ module _ (h : Heap) (e : Entry) where
 
 -- a push on the heap is the push on the list
 pub push-walked : (h : Heap) (at g : ℕ) (place : Place) → h .len < length (h .entries)
-    → Walked (h .len + 1) (length (h .entries)) 0 (pushedOf h at g place) (T.push key noEntry (items h) (entryOf h at g place))
+    → Walked (h .len + 1) (length (h .entries)) 0 (pushedOf h at g place) (T.push key noEntry (items h) (newEntry h at g place))
 unfolding pushedOf T.push
 push-walked h at g place room =
-    let e = entryOf h at g place in
+    let e = newEntry h at g place in
     let n = items-length h (omega arith) in
     walked-as (added-len h e) (added-long h e) (λ t. T.upFrom key noEntry (sym n t) (items-added h e room t) (sym n t))
     (up-walked (h .len) (addedOf (takenOf h) e) (h .len) 0 (omega (arith, added-len h e)))

@@ -18,8 +18,8 @@ use Rattle.heap.specs.declared.SlotState.{SlotState}
 use Rattle.heap.specs.declared.SlotState.the-variants.{Full, Empty}
 use Rattle.heap.specs.declared.Heap.{Heap}
 use Rattle.heap.specs.Rules.{entryAt, stateAt, putAt, swapAt, takenOf, addedOf, pushedOf, vacatedOf, removedOf}
+use Rattle.heap.specs.Slab.{Slab}
 use Rattle.heap.specs.Calls.{Off, pushSound, removeBy, removeSound, removeGives, popSound}
-use Rattle.heap.proofs.Slab.{Slab}
 use Rattle.heap.proofs.Laws.{len-swap}
 use Rattle.heap.proofs.Swap.{slab-swap}
 use Rattle.heap.proofs.Steps.{Swaps, push-by, remove-by}

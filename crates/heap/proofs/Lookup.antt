@@ -15,24 +15,13 @@ use Rattle.heap.specs.declared.SlotState.the-variants.{Full, Empty}
 use Rattle.heap.specs.declared.Heap.{Heap}
 use Rattle.heap.specs.Rules.{entryAt, stateAt, slotAt, swapAt, upFrom, downFrom}
 use Rattle.heap.specs.Faults.{isFull, fullAt}
-use Rattle.heap.proofs.Slab.{Slab, back, full-pos}
+use Rattle.heap.specs.Lookup.{standing, lookup, usedAt}
+use Rattle.heap.specs.Slab.{Slab}
+use Rattle.heap.proofs.Slab.{back, full-pos}
 use Rattle.heap.proofs.Spare.{Alike}
 use Rattle.heap.proofs.Laws.{len-swap}
 use Rattle.heap.proofs.Swap.{swap-alike, swap-left, swap-right, swap-other, slab-swap}
 use Rattle.heap.proofs.Steps.{Swaps, up-by, down-by}
-
--- what stands in a slot that was made
-abbrev pub standing : Heap → SlotState → Option Entry
-standing h (Full p) = some (entryAt h (p .0))
-standing h (Empty n) = none
-
--- what stands in a slot: none where it was not made or is empty, else the entry at the position that it names
-unfoldable pub lookup : Heap → ℕ → Option Entry
-lookup h k = cond (ltb k (h .made)) (standing h (stateAt h k)) none
-
--- a slot was made, and is full
-abbrev pub usedAt : Heap → ℕ → Bool
-usedAt h k = ltb k (h .made) && fullAt h k
 
 -- in a slot that is not in use there is nothing
 pub lookup-none : (h : Heap) (k : ℕ) → usedAt h k ≡ false → lookup h k ≡ none

@@ -16,13 +16,10 @@ use Rattle.heap.specs.declared.Place.{Place}
 use Rattle.heap.specs.declared.Entry.{Entry}
 use Rattle.heap.specs.declared.Heap.{Heap}
 use Rattle.heap.specs.declared.walk.Moved.{Moved}
-use Rattle.heap.specs.Rules.{noEntry, entryAt, items, key, before, pushedOf, removedOf}
+use Rattle.heap.specs.Rules.{noEntry, entryAt, items, key, before, newEntry, pushedOf, removedOf}
+use Rattle.heap.specs.Slab.{OrderedIn}
 use Rattle.heap.proofs.Items.{items-length, items-at, Walked}
-use Rattle.heap.proofs.ItemsCalls.{entryOf, push-walked, remove-walked}
-
--- no entry in use is smaller than its parent
-abbrev pub OrderedIn : Heap → Type 0
-OrderedIn h = (i : ℕ) → 0 < i → i < h .len → before (entryAt h i) (entryAt h (parent i)) ≡ false
+use Rattle.heap.proofs.ItemsCalls.{push-walked, remove-walked}
 
 module _ (h : Heap) (fits : h .len ≤ length (h .entries)) where
   -- a heap in order has its list in order
@@ -46,7 +43,7 @@ walked-ordered {m = m} w b o = list-ordered (m .heap) (omega arith) (subst (T.Or
 pub push-keeps : (h : Heap) (at g : ℕ) (place : Place) → h .len < length (h .entries) → OrderedIn h → OrderedIn (pushedOf h at g place .heap)
 push-keeps h at g place room o =
     walked-ordered (push-walked h at g place room) (omega arith)
-    (push-ordered key noEntry (items h) (entryOf h at g place) (ordered-list h (omega arith) o))
+    (push-ordered key noEntry (items h) (newEntry h at g place) (ordered-list h (omega arith) o))
 
 -- a removal keeps the order
 pub remove-keeps : (h : Heap) (s : Slot) (p : Pos) → h .len ≤ length (h .entries) → p .0 < h .len → OrderedIn h → OrderedIn (removedOf h s p .heap)

@@ -19,13 +19,13 @@ use Rattle.heap.specs.declared.Slot.{Slot}
 use Rattle.heap.specs.declared.Place.{Place}
 use Rattle.heap.specs.declared.SlotState.the-variants.{Full, Empty}
 use Rattle.heap.specs.declared.Heap.{Heap}
-use Rattle.heap.specs.Rules.{entryAt, stateAt, putAt, withSlots, withLen, takenOf, addedOf}
+use Rattle.heap.specs.Rules.{entryAt, stateAt, putAt, withSlots, withLen, takenOf, addedOf, newEntry}
 use Rattle.heap.specs.Faults.{isFull, linkOf, fullAt, emptyAt, nextAt}
-use Rattle.heap.proofs.Slab.{Slab, full-at, not-full-at}
+use Rattle.heap.specs.Slab.{Slab}
+use Rattle.heap.proofs.Slab.{full-at, not-full-at}
 use Rattle.heap.proofs.Stored.{entry-same, entry-other, state-same, state-other, put-here, put-there}
 use Rattle.heap.proofs.Spare.{Spare, empty-same, full-empty, link-empty}
 use Rattle.heap.proofs.FreeHead.{free-view, all-used, free-apart, taken-new, taken-old}
-use Rattle.heap.proofs.Steps.{newEntry}
 
 -- the new entry last, with m slots and f as the free head from then on
 module _ (h : Heap) (s : Slab h) (at g : ℕ) (place : Place) (room : h .len < cap) (m : ℕ) (f : Slot) where

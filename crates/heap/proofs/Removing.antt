@@ -20,7 +20,8 @@ use Rattle.heap.specs.declared.SlotState.the-variants.{Full, Empty}
 use Rattle.heap.specs.declared.Heap.{Heap}
 use Rattle.heap.specs.Rules.{noSlot, entryAt, stateAt, slotAt, putAt, withLen, vacatedOf}
 use Rattle.heap.specs.Faults.{isFull, linkOf, fullAt, emptyAt, nextAt}
-use Rattle.heap.proofs.Slab.{Named, Slab, back, slot-apart, not-full-at, full-at}
+use Rattle.heap.specs.Slab.{Named, Slab}
+use Rattle.heap.proofs.Slab.{back, slot-apart, not-full-at, full-at}
 use Rattle.heap.proofs.Stored.{entry-same, entry-other, put-here, put-there}
 use Rattle.heap.proofs.Spare.{Spare, Alike, alike-both, alike-spare, len-alike, put-alike, empty-same, empty-tells, full-empty, link-empty}
 use Rattle.heap.proofs.Steps.{moveLast}

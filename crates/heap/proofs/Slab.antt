@@ -9,32 +9,17 @@ use Prim.Native.Nat.{ℕ, zero, suc, _<_, _≤_}
 use native.Mathlib.Omega.{arith}
 use lib.ListN.{length}
 use Rattle.theory.specs.Order.{parent}
-use Rattle.theory.specs.Counting.{count, Mem, Distinct}
-use Rattle.theory.specs.Chain.{unless, chainOkb}
+use Rattle.theory.specs.Counting.{Mem, Distinct}
 use Rattle.theory.proofs.Pigeonhole.{pigeonhole}
-use Rattle.heap.specs.Capacity.{cap}
 use Rattle.heap.specs.declared.Slot.{Slot}
 use Rattle.heap.specs.declared.Pos.{Pos}
 use Rattle.heap.specs.declared.SlotState.{SlotState}
 use Rattle.heap.specs.declared.SlotState.the-variants.{Full, Empty}
 use Rattle.heap.specs.declared.Heap.{Heap}
 use Rattle.heap.specs.Rules.{entryAt, stateAt, slotAt, before}
-use Rattle.heap.specs.Faults.{isFull, fullAt, emptyAt, nextAt}
+use Rattle.heap.specs.Faults.{isFull, fullAt}
 use Rattle.heap.specs.Sound.{Sound}
-
--- the slot of the entry at a position was made, and is full with the position
-abbrev pub Named : Heap → ℕ → Type 0
-Named h p = (slotAt h p < h .made) × (stateAt h (slotAt h p) ≡ Full (record { 0 = p }))
-
--- a sound heap, but for the order
-pub record Slab (h : Heap) : Type 0 where
-  pub entries-long : length (h .entries) ≡ cap
-  pub slots-long : length (h .slots) ≡ cap
-  pub len-in : h .len ≤ cap
-  pub made-in : h .made ≤ cap
-  pub counted : count (fullAt h) (h .made) ≡ h .len
-  pub forth : (p : ℕ) → p < h .len → Named h p
-  pub chained : chainOkb (emptyAt h) (nextAt h) (h .made) (unless (h .made) (h .free .0)) ≡ true
+use Rattle.heap.specs.Slab.{Slab}
 
 -- a sound heap has it
 pub sound-slab : (h : Heap) → Sound h → Slab h

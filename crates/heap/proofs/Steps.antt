@@ -11,19 +11,14 @@ use Rattle.theory.specs.Order.{parent}
 use Rattle.heap.specs.declared.Slot.{Slot}
 use Rattle.heap.specs.declared.Pos.{Pos}
 use Rattle.heap.specs.declared.Place.{Place}
-use Rattle.heap.specs.declared.Entry.{Entry}
 use Rattle.heap.specs.declared.Heap.{Heap}
 use Rattle.heap.specs.declared.walk.Moved.{Moved}
-use Rattle.heap.specs.Rules.{entryAt, before, putAt, swapAt, withLen, risesAt, upFrom, childOf, downFrom, takenOf, addedOf, pushedOf, vacatedOf, filledOf, removedOf}
+use Rattle.heap.specs.Rules.{entryAt, before, putAt, swapAt, withLen, risesAt, upFrom, childOf, downFrom, takenOf, addedOf, newEntry, pushedOf, vacatedOf, filledOf, removedOf}
 use Rattle.heap.proofs.Laws.{len-swap, child-below}
 
 -- every swap of two positions below `len` keeps P
 abbrev pub Swaps : (Heap → Type 0) → Type 0
 Swaps P = (g : Heap) (i j : ℕ) → P g → i < g .len → j < g .len → P (swapAt g i j)
-
--- the new entry of a push
-abbrev pub newEntry : Heap → ℕ → ℕ → Place → Entry
-newEntry h at g place = record { at = at; generation = g; place = place; slot = h .free }
 
 -- the last entry stands in the hole
 abbrev pub moveLast : Heap → Slot → Pos → Heap

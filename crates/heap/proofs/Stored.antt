@@ -9,7 +9,7 @@ use Rattle.heap.specs.declared.SlabSlot.{SlabSlot}
 use Rattle.heap.specs.declared.SlotState.the-variants.{Full}
 use Rattle.heap.specs.declared.Heap.{Heap}
 use Rattle.heap.specs.Rules.{noSlot, entryAt, stateAt, slotAt, putAt}
-use Rattle.heap.proofs.Slab.{Named}
+use Rattle.heap.specs.Slab.{Named}
 
 -- an entry's slot number
 abbrev pub slotOf : Entry → ℕ

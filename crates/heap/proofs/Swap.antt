@@ -9,7 +9,8 @@ use Rattle.theory.proofs.Tests.{by-ref, ref-eq}
 use Rattle.heap.specs.declared.Heap.{Heap}
 use Rattle.heap.specs.Rules.{entryAt, slotAt, putAt, swapAt}
 use Rattle.heap.specs.Faults.{fullAt}
-use Rattle.heap.proofs.Slab.{Named, Slab, slot-apart, full-at}
+use Rattle.heap.specs.Slab.{Named, Slab}
+use Rattle.heap.proofs.Slab.{slot-apart, full-at}
 use Rattle.heap.proofs.Stored.{slotOf, entry-same, entry-other, long-entries, long-slots, put-here, put-there}
 use Rattle.heap.proofs.Spare.{Alike, alike-both, alike-spare, put-alike}
 

@@ -1,7 +1,9 @@
 pub mod Capacity
 pub mod Rules
 pub mod Faults
+pub mod Lookup
 pub mod Sound
+pub mod Slab
 pub mod InUse
 pub mod Calls
 pub mod Promises

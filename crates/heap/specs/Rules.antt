@@ -122,6 +122,10 @@ withLen h n = record { entries = h .entries; len = n; slots = h .slots; made = h
 unfoldable pub addedOf : Heap → Entry → Heap
 addedOf h e = putAt (withLen h (h .len + 1)) (h .len) e
 
+-- the new entry of a push: its slot is the free head
+abbrev pub newEntry : Heap → ℕ → ℕ → Place → Entry
+newEntry h at g place = record { at = at; generation = g; place = place; slot = h .free }
+
 -- push: the entry gets the free head for its slot, goes last, and moves up
 unfoldable pub pushedOf : Heap → ℕ → ℕ → Place → Moved
 pushedOf h at g place = upFrom (h .len) (addedOf (takenOf h) (record { at = at; generation = g; place = place; slot = h .free })) (h .len) 0

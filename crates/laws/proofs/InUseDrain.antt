@@ -10,7 +10,7 @@ use Rattle.heap.specs.declared.Slot.{Slot}
 use Rattle.heap.specs.declared.Heap.{Heap}
 use Rattle.heap.specs.Sound.{Sound}
 use Rattle.heap.proofs.SoundKept.{push-sound, remove-sound}
-use Rattle.heap.proofs.InUseStores as Heap
+use Rattle.heap.specs.InUse as Heap
 use Rattle.heap.proofs.InUse.{push-sound-in-use, remove-sound-in-use}
 use Rattle.word.specs.Rules.{generationOf}
 use Rattle.state.specs.declared.Life.{Life}

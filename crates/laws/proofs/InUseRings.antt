@@ -20,7 +20,7 @@ use Rattle.heap.proofs.Items.{and-same}
 use Rattle.heap.proofs.Slab.{sound-slab}
 use Rattle.heap.proofs.Kept.{pop-head, remove-len}
 use Rattle.heap.proofs.SoundKept.{pop-sound}
-use Rattle.heap.proofs.InUseStores as Heap
+use Rattle.heap.specs.InUse as Heap
 use Rattle.heap.proofs.InUseWalks.{choose-ref}
 use Rattle.heap.proofs.InUse.{pop-sound-in-use}
 use Rattle.state.specs.declared.Set.{Set}

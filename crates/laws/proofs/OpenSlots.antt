@@ -12,12 +12,12 @@ use Rattle.heap.specs.Capacity.{cap}
 use Rattle.heap.specs.declared.Slot.{Slot}
 use Rattle.heap.specs.declared.Entry.{Entry}
 use Rattle.heap.specs.declared.Heap.{Heap}
-use Rattle.heap.specs.Rules.{pushedOf}
+use Rattle.heap.specs.Rules.{newEntry, pushedOf}
+use Rattle.heap.specs.Lookup.{lookup}
 use Rattle.heap.specs.Calls.{pushGives, pushSound, removeSound}
 use Rattle.heap.specs.Sound as Heap
 use Rattle.heap.proofs.Slab.{sound-slab}
-use Rattle.heap.proofs.Steps.{newEntry}
-use Rattle.heap.proofs.Lookup.{lookup, lookup-some}
+use Rattle.heap.proofs.Lookup.{lookup-some}
 use Rattle.heap.proofs.BySlot.{free-none, push-new, push-other, remove-found}
 use Rattle.heap.proofs.SoundKept.{push-sound, remove-sound}
 use Rattle.state.specs.declared.Held.{Held}

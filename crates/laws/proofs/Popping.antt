@@ -18,11 +18,13 @@ use Rattle.heap.specs.declared.Slot.{Slot}
 use Rattle.heap.specs.declared.Entry.{Entry}
 use Rattle.heap.specs.declared.Heap.{Heap}
 use Rattle.heap.specs.Rules.{entryAt, slotAt}
+use Rattle.heap.specs.Lookup.{lookup}
+use Rattle.heap.specs.Slab.{Slab}
 use Rattle.heap.specs.Calls.{Off, popSound}
-use Rattle.heap.proofs.Slab.{Slab, sound-slab}
+use Rattle.heap.proofs.Slab.{sound-slab}
 use Rattle.heap.proofs.Kept.{pop-head, remove-len}
 use Rattle.heap.proofs.SoundKept.{pop-sound}
-use Rattle.heap.proofs.Lookup.{lookup, lookup-head, lookup-some}
+use Rattle.heap.proofs.Lookup.{lookup-head, lookup-some}
 use Rattle.heap.proofs.BySlot.{pop-gone, pop-other}
 use Rattle.state.specs.declared.Held.{Held}
 use Rattle.state.specs.declared.Held.the-variants as Held

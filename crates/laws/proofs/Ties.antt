@@ -11,9 +11,10 @@ use Rattle.heap.specs.Capacity.{cap}
 use Rattle.heap.specs.declared.Slot.{Slot}
 use Rattle.heap.specs.declared.Entry.{Entry}
 use Rattle.heap.specs.Rules.{entryAt, slotAt}
+use Rattle.heap.specs.Lookup.{lookup}
 use Rattle.heap.specs.Sound as Heap
 use Rattle.heap.proofs.Slab.{sound-slab}
-use Rattle.heap.proofs.Lookup.{lookup, lookup-full, lookup-state, lookup-at, lookup-some}
+use Rattle.heap.proofs.Lookup.{lookup-full, lookup-state, lookup-at, lookup-some}
 use Rattle.word.specs.Rules.{invalidIn}
 use Rattle.state.specs.declared.Life.the-variants.{Free, Live, Cancelled, Retired}
 use Rattle.state.specs.declared.Held.the-variants as Held

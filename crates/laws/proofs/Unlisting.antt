@@ -20,7 +20,7 @@ use Rattle.theory.proofs.ChainChange.{pop-ok}
 use Rattle.heap.specs.Capacity.{cap}
 use Rattle.heap.specs.declared.Slot.{Slot}
 use Rattle.heap.specs.declared.Entry.{Entry}
-use Rattle.heap.proofs.Lookup.{lookup}
+use Rattle.heap.specs.Lookup.{lookup}
 use Rattle.state.specs.declared.Waiting.{Waiting}
 use Rattle.state.specs.declared.Waiting.the-variants.{No, Last, Before}
 use Rattle.state.specs.declared.Held.the-variants as Held

@@ -24,7 +24,7 @@ use Rattle.heap.proofs.Items.{and-same}
 use Rattle.heap.proofs.SoundFacts.{full-back}
 use Rattle.heap.proofs.Test.{consistent-sound}
 use Rattle.heap.proofs.InUseTest as HeapTest
-use Rattle.heap.proofs.InUseStores as Heap
+use Rattle.heap.specs.InUse as Heap
 use Rattle.state.specs.declared.Held.{Held}
 use Rattle.state.specs.declared.Held.the-variants as Held
 use Rattle.state.specs.declared.Set.{Set}
