@@ -128,7 +128,7 @@ newEntry h at g place = record { at = at; generation = g; place = place; slot = 
 
 -- push: the entry gets the free head for its slot, goes last, and moves up
 unfoldable pub pushedOf : Heap → ℕ → ℕ → Place → Moved
-pushedOf h at g place = upFrom (h .len) (addedOf (takenOf h) (record { at = at; generation = g; place = place; slot = h .free })) (h .len) 0
+pushedOf h at g place = upFrom (h .len) (addedOf (takenOf h) (newEntry h at g place)) (h .len) 0
 
 -- the slot becomes the free head, naming the old one
 unfoldable pub vacatedOf : Heap → Slot → Heap
