@@ -19,32 +19,11 @@ use Rattle.state.specs.declared.Set.{Set}
 use Rattle.state.specs.State.{timerAt, handleWord}
 use Rattle.state.specs.Sound.{Sound}
 use Rattle.moves.specs.Rules.{Ring, rungLife, reports, rungTimer, rungOf, advancedOf}
+use Rattle.laws.specs.Advanced.{Handled, Stays, Rest}
 use Rattle.laws.proofs.Ties.{sound-tied}
 use Rattle.laws.proofs.Popping.{head-place, headless-all}
 use Rattle.laws.proofs.RungSound.{due-some, rung-sound}
 use Rattle.laws.proofs.AdvancedSound.{ring-by, fromStart, advanced-counts}
-
--- a word that stands for the handle of a live timer of the set
-pub record Handled (s : Set) (word : ℕ) : Type 0 where
-  pub at : ℕ
-  pub in-range : at < cap
-  pub state-word : ℕ
-  pub due : ℕ
-  pub live : timerAt s at .life ≡ Live state-word due
-  pub is-word : word ≡ handleWord (record { place = record { 0 = at }; uses = timerAt s at .uses })
-
--- a timer has the use number that another one had, and where it is live that one was, with the same deadline
-pub record Stays (from : Timer) (t : Timer) : Type 0 where
-  pub same-uses : t .uses ≡ from .uses
-  pub was-live : (w d : ℕ) → t .life ≡ Live w d → (v : ℕ) × (from .life ≡ Live v d)
-
--- the list in the middle of an advance of the set s, which began as l
-pub record Rest (s : Set) (l : List ℕ) (r : Ring) : Type 0 where
-  pub set-sound : Sound (r .set)
-  pub stays : (p : ℕ) → Stays (timerAt s p) (timerAt (r .set) p)
-  pub same-length : length (r .list) ≡ length l
-  pub untouched : (i : ℕ) → r .reported ≤ i → getD (r .list) i 0 ≡ getD l i 0
-  pub written : (i : ℕ) → i < r .reported → i < length l → Handled s (getD (r .list) i 0)
 
 -- what rings and is live then was live
 rung-live : (g : ℕ) (l : Life) (w d : ℕ) → rungLife g l ≡ Live w d → (v : ℕ) × (l ≡ Live v d)
@@ -72,9 +51,9 @@ module _ (s : Set) (l : List ℕ) (r : Ring) (c : Rest s l r) (b : 0 < r .set .h
   word = handleWord (record { place = e .place; uses = t .uses })
 
   -- a pop leaves the timers' use numbers, and revives none
-  rung-stays : (p : ℕ) → Stays (timerAt s p) (timerAt (rungOf r .set) p)
+  popped-stays : (p : ℕ) → Stays (timerAt s p) (timerAt (rungOf r .set) p)
   unfolding rungOf e t
-  rung-stays =
+  popped-stays =
       headless-all (r .set) (sound-tied (r .set) (c .set-sound)) b (rungTimer (e .generation) t) (λ p y. Stays (timerAt s p) y)
       (record {
         same-uses = c .stays (e .place .0) .same-uses;
@@ -102,7 +81,7 @@ module _ (s : Set) (l : List ℕ) (r : Ring) (c : Rest s l r) (b : 0 < r .set .h
   unfolding rungOf e t word
   rung-rest = record {
     set-sound = rung-sound r (c .set-sound) b;
-    stays = rung-stays;
+    stays = popped-stays;
     same-length = lengths (reports (e .generation) (t .life));
     untouched = beyond (reports (e .generation) (t .life));
     written = before (reports (e .generation) (t .life)) word-handled;

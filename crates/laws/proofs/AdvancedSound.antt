@@ -15,6 +15,7 @@ use Rattle.state.specs.declared.Set.{Set}
 use Rattle.state.specs.State.{timerAt}
 use Rattle.state.specs.Sound.{Sound}
 use Rattle.moves.specs.Rules.{Ring, dueBy, reports, rungOf, ringFrom, advancedOf}
+use Rattle.laws.specs.Advanced.{Counts}
 use Rattle.laws.proofs.Popping.{pop-len}
 use Rattle.laws.proofs.RungSound.{due-some, rung-sound}
 
@@ -76,13 +77,6 @@ ring-not-due (suc k) r N ok b = go (dueBy (r .set .heap) N) refl (ring-not-due k
 pub advanced-not-due : (s : Set) (N : ℕ) (l : List ℕ) → Sound s → dueBy (advancedOf s N l .set .heap) N ≡ false
 unfolding advancedOf
 advanced-not-due s N l ok = ring-not-due (s .heap .len) (fromStart s l) N ok (omega arith)
-
--- the counts of an advance: no more are reported than popped, and what is popped is missing from the heap's n entries
-pub record Counts (n : ℕ) (r : Ring) : Type 0 where
-  pub set-sound : Sound (r .set)
-  pub reported-in : r .reported ≤ r .popped
-  pub popped-in : r .popped ≤ n
-  pub left-over : r .set .heap .len + r .popped ≡ n
 
 -- a pop keeps them
 rung-counts : (n N : ℕ) (r : Ring) → dueBy (r .set .heap) N ≡ true → Counts n r → Counts n (rungOf r)

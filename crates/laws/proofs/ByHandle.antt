@@ -18,10 +18,11 @@ use Rattle.state.specs.declared.Handle.{Handle}
 use Rattle.state.specs.State.{noTimer, timerAt}
 use Rattle.moves.specs.Rules.{touchedOf, lowestFree, freedOf, drainedOf, advancedOf, closedOf}
 use Rattle.timers.specs.Calls.{Timing, timingOf, liveAt}
+use Rattle.laws.specs.ByHandle.{Fires, Marks, Still}
 use Rattle.laws.proofs.Naming.{names, names-same, names-other, names-dead, live-in-range, live-none, live-rel, live-told, store-rel}
 use Rattle.laws.proofs.Found.{lowest-in, lowest-free}
 use Rattle.laws.proofs.Places.{Order, drained-each, advanced-each, closed-each}
-use Rattle.laws.proofs.Still.{Fires, Marks, Still, still-same, fires-changes, marks-changes, Stays, stays-order, rung-stays, marked-stays}
+use Rattle.laws.proofs.Still.{still-same, fires-changes, marks-changes, StaysFor, stays-order, rung-stays, marked-stays}
 
 -- the handle of a place as it is now
 abbrev pub handleAt : Set → ℕ → Handle
@@ -111,10 +112,10 @@ drained-keeps s h =
 pub advanced-keeps-due : (s : Set) (N : ℕ) (l : List ℕ) (h : Handle) → Still Fires (liveAt s h) (liveAt (advancedOf s N l .set) h)
 advanced-keeps-due s N l h =
     live-rel (Still Fires) (still-same Fires fires-changes none none refl) s (advancedOf s N l .set) h
-    (advanced-each (Stays Fires) (stays-order Fires fires-changes) rung-stays s N l (h .place .0) (h .uses))
+    (advanced-each (StaysFor Fires) (stays-order Fires fires-changes) rung-stays s N l (h .place .0) (h .uses))
 
 -- after a close every handle is live where it was, with the same deadline; its word stays or gets the invalid bit
 pub closed-keeps-due : (s : Set) (h : Handle) → Still Marks (liveAt s h) (liveAt (closedOf s) h)
 closed-keeps-due s h =
     live-rel (Still Marks) (still-same Marks marks-changes none none refl) s (closedOf s) h
-    (closed-each (Stays Marks) (stays-order Marks marks-changes) marked-stays s (h .place .0) (h .uses))
+    (closed-each (StaysFor Marks) (stays-order Marks marks-changes) marked-stays s (h .place .0) (h .uses))

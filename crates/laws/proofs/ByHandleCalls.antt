@@ -1,7 +1,6 @@
 -- What each call changes of what handles name, refused or not: its own handle as the rule says, where it is accepted, and no other.
 -- Assumes nothing.
 use mathlib.Core.Path.{_≡_, refl, sym, ap, subst}
-use mathlib.Core.Bool.{true}
 use mathlib.Core.Option.{Option, none, some}
 use mathlib.Core.List.{List}
 use Prim.Native.Nat.{ℕ}
@@ -10,30 +9,17 @@ use Rattle.refusals.specs.Answer.{accepted}
 use Rattle.heap.specs.Capacity.{cap}
 use Rattle.word.specs.Rules as Word
 use Rattle.interval.specs.declared.Policy.{Policy}
-use Rattle.interval.specs.Rules.{tickOf, restartOf}
+use Rattle.interval.specs.Rules.{restartOf}
 use Rattle.state.specs.declared.Life.the-variants.{Live, Cancelled}
 use Rattle.state.specs.declared.Set.{Set}
 use Rattle.state.specs.declared.Handle.{Handle}
 use Rattle.moves.specs.Rules.{touchedOf, drainedOf, advancedOf}
-use Rattle.timers.specs.Calls.{Value, handle, time, Timing, liveAt, resetTo, addOf, resetOf, cancelOf, drainOf, advanceOf, turnOf, nextWakeOf, pollOf, closeOf, tickAt, restartAt}
+use Rattle.timers.specs.Calls.{Value, handle, Timing, liveAt, resetTo, addOf, resetOf, cancelOf, drainOf, advanceOf, turnOf, nextWakeOf, pollOf, closeOf, tickAt, restartAt}
 use Rattle.timers.proofs.Guarding.{not-both}
-use Rattle.laws.proofs.Still.{Fires, Marks, Still, still-same, fires-changes, marks-changes}
+use Rattle.laws.specs.ByHandle.{Fires, Marks, Still, ResetTo, TickedTo}
+use Rattle.laws.proofs.Still.{still-same, fires-changes, marks-changes}
 use Rattle.laws.proofs.ByHandle.{handleAt, live-others, live-touched, added-was-dead, added-lives, added-others, drained-keeps, advanced-keeps-due, closed-keeps-due}
 use Rattle.laws.proofs.CallCases.{add-by, reset-by, cancel-by, drain-by, close-by, wake-by, poll-by, tick-by, restart-by, advance-by, turn-by}
-
--- a handle that was live is so with the word as a reset leaves it, and a new deadline
-pub record ResetTo (s r : Set) (h : Handle) (d : ℕ) : Type 0 where
-  pub was : Timing
-  pub was-live : liveAt s h ≡ some was
-  pub is-live : liveAt r h ≡ some (record { word = Word.resetOf (was .word); due = d })
-
--- the same of a timer that has fired, with the deadline that the interval's rule says and its old one as the answer
-pub record TickedTo (s r : Set) (h : Handle) (p : Policy) (period N : ℕ) (v : Value) : Type 0 where
-  pub next : ℕ
-  pub reset : ResetTo s r h next
-  pub had-fired : Word.firedIn (reset .was .word) ≡ true
-  pub by-rule : tickOf p (reset .was .due) period N ≡ accepted next
-  pub answers-old : v ≡ time (reset .was .due)
 
 module _ (s : Set) where
   -- add: the handle that it answers was dead, and is live with word 0 and the deadline

@@ -15,13 +15,9 @@ use Rattle.state.specs.declared.Handle.{Handle}
 use Rattle.timers.specs.declared.Call.{Call}
 use Rattle.timers.specs.declared.Call.the-variants as C
 use Rattle.timers.specs.Calls.{Value, handle, liveAt, step}
-use Rattle.laws.proofs.Still.{Same, Fires, Marks, Still, still-same, same-changes}
+use Rattle.laws.specs.ByHandle.{Same, Fires, Marks, Still, ResetTo, TickedTo, stepped, Other, WordBy}
+use Rattle.laws.proofs.Still.{still-same, same-changes}
 use Rattle.laws.proofs.ByHandleCalls as By
-use Rattle.laws.proofs.ByHandleCalls.{ResetTo, TickedTo}
-
--- the set after a call
-abbrev pub stepped : Set → Call → List ℕ → Set
-stepped s c l = step s c l .state .set
 
 module _ (s : Set) (l : List ℕ) where
   module _ (long : length (s .timers) ≡ cap) where
@@ -82,34 +78,6 @@ module _ (s : Set) (l : List ℕ) where
   pub step-poll : (h : Handle) → stepped s (C.Poll h) l ≡ s
   unfolding step
   step-poll h = By.poll-keeps s h
-
--- the handle is not the one that the call is given to change, nor the one that an add answers
-abbrev pub Other : Set → List ℕ → Handle → Call → Type 0
-Other s l k (C.Add d) = step s (C.Add d) l .answer ≡ accepted (handle k) → ⊥
-Other s l k (C.Reset h d) = k ≡ h → ⊥
-Other s l k (C.Cancel h) = k ≡ h → ⊥
-Other s l k C.Drain = Unit {0}
-Other s l k (C.Advance N) = Unit {0}
-Other s l k (C.Turn N) = Unit {0}
-Other s l k C.NextWake = Unit {0}
-Other s l k (C.Poll h) = Unit {0}
-Other s l k C.Close = Unit {0}
-Other s l k (C.Tick h p period N) = k ≡ h → ⊥
-Other s l k (C.Restart h period N) = k ≡ h → ⊥
-
--- what a call may do to the word of another handle
-abbrev pub WordBy : Call → ℕ → ℕ → Type 0
-WordBy (C.Add d) = Same
-WordBy (C.Reset h d) = Same
-WordBy (C.Cancel h) = Same
-WordBy C.Drain = Same
-WordBy (C.Advance N) = Fires
-WordBy (C.Turn N) = Fires
-WordBy C.NextWake = Same
-WordBy (C.Poll h) = Same
-WordBy C.Close = Marks
-WordBy (C.Tick h p period N) = Same
-WordBy (C.Restart h period N) = Same
 
 -- what any other handle names after a call
 pub step-others : (s : Set) (c : Call) (l : List ℕ) (k : Handle) → Other s l k c → Still (WordBy c) (liveAt s k) (liveAt (stepped s c l) k)

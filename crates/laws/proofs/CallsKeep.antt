@@ -68,24 +68,24 @@ module _ (P : Set → Type 0) (s : Set) (k : Kept P s) where
   added-keeps d c (some p) e = k .adds p d c e
 
   -- add
-  pub add-keeps : (d : ℕ) → P (addOf s d .state)
+  pub add-keeps-it : (d : ℕ) → P (addOf s d .state)
   unfolding addOf
-  add-keeps d = guarded-keeps P s s (k .now) (addedAt s d (lowestFree s)) (λ c. added-keeps d c (lowestFree s) refl)
+  add-keeps-it d = guarded-keeps P s s (k .now) (addedAt s d (lowestFree s)) (λ c. added-keeps d c (lowestFree s) refl)
 
   -- reset
-  pub reset-keeps : (h : Handle) (d : ℕ) → P (resetOf s h d .state)
+  pub reset-keeps-it : (h : Handle) (d : ℕ) → P (resetOf s h d .state)
   unfolding resetOf
-  reset-keeps h d = live-keeps h (λ t. gives (resetTo s h d t) nothing) (λ t c e. k .resets h t d c e)
+  reset-keeps-it h d = live-keeps h (λ t. gives (resetTo s h d t) nothing) (λ t c e. k .resets h t d c e)
 
   -- cancel
-  pub cancel-keeps : (h : Handle) → P (cancelOf s h .state)
+  pub cancel-keeps-it : (h : Handle) → P (cancelOf s h .state)
   unfolding cancelOf
-  cancel-keeps h = live-keeps h (λ t. gives (touchedOf s (h .place .0) (Cancelled (t .word))) nothing) (λ t c e. k .cancels h t c e)
+  cancel-keeps-it h = live-keeps h (λ t. gives (touchedOf s (h .place .0) (Cancelled (t .word))) nothing) (λ t c e. k .cancels h t c e)
 
   -- drain
-  pub drain-keeps : (s .closed ≡ false → P (drainedOf s)) → P (drainOf s .state)
+  pub drain-keeps-it : (s .closed ≡ false → P (drainedOf s)) → P (drainOf s .state)
   unfolding drainOf
-  drain-keeps f = guarded-keeps P s s (k .now) (gives (drainedOf s) nothing) f
+  drain-keeps-it f = guarded-keeps P s s (k .now) (gives (drainedOf s) nothing) f
 
   ticked-keeps : (h : Handle) (t : Timing) → ((d : ℕ) → P (resetTo s h d t)) → (b : Bool) (a : Answer ℕ)
       → P ((cond b (tickedBy s h t a) (refusing s NotFired)) .state)
@@ -94,9 +94,9 @@ module _ (P : Set → Type 0) (s : Set) (k : Kept P s) where
   ticked-keeps h t f false a = k .now
 
   -- tick
-  pub tick-keeps : (h : Handle) (p : Policy) (period N : ℕ) → P (tickAt s h p period N .state)
+  pub tick-keeps-it : (h : Handle) (p : Policy) (period N : ℕ) → P (tickAt s h p period N .state)
   unfolding tickAt
-  tick-keeps h p period N =
+  tick-keeps-it h p period N =
       live-keeps h (ticked s h p period N)
       (λ t c e. ticked-keeps h t (λ d. k .resets h t d c e) (Word.firedIn (t .word)) (tickOf p (t .due) period N))
 
@@ -105,25 +105,25 @@ module _ (P : Set → Type 0) (s : Set) (k : Kept P s) where
   restarted-keeps h t f (refused n) = k .now
 
   -- interval reset
-  pub restart-keeps : (h : Handle) (period N : ℕ) → P (restartAt s h period N .state)
+  pub restart-keeps-it : (h : Handle) (period N : ℕ) → P (restartAt s h period N .state)
   unfolding restartAt
-  restart-keeps h period N =
+  restart-keeps-it h period N =
       live-keeps h (λ t. restartedBy s h t (restartOf period N))
       (λ t c e. restarted-keeps h t (λ d. k .resets h t d c e) (restartOf period N))
 
   -- next wake
-  pub wake-keeps : P (nextWakeOf s .state)
+  pub wake-keeps-it : P (nextWakeOf s .state)
   unfolding nextWakeOf guarded
-  wake-keeps = go (soundOf s)
+  wake-keeps-it = go (soundOf s)
     where
       go : (b : Bool) → P ((cond b (gives s (wake (wakeBy (peekSound (s .heap))))) (refusing s Unsound)) .state)
       go true = k .now
       go false = k .now
 
   -- poll
-  pub poll-keeps : (h : Handle) → P (pollOf s h .state)
+  pub poll-keeps-it : (h : Handle) → P (pollOf s h .state)
   unfolding pollOf guarded
-  poll-keeps h = go (soundOf s)
+  poll-keeps-it h = go (soundOf s)
     where
       go : (b : Bool) → P ((cond b (alive s (liveAt s h) (λ t. gives s (polled (pollBy (Word.pollOf (t .word)))))) (refusing s Unsound)) .state)
       go true = alive-keeps h (λ t. gives s (polled (pollBy (Word.pollOf (t .word))))) (λ t e. k .now)
@@ -138,35 +138,35 @@ module _ (P : Set → Type 0) (s : Set) (k : Kept P s) where
         go false = k .now
 
     -- advance
-    pub advance-keeps : (N : ℕ) (l : List ℕ) → P (advanceOf s N l .state .set)
+    pub advance-keeps-it : (N : ℕ) (l : List ℕ) → P (advanceOf s N l .state .set)
     unfolding advanceOf
-    advance-keeps N l =
+    advance-keeps-it N l =
         guarded-keeps (λ (x : Lent). P (x .set)) s (lent s l) (k .now) (roomy s l (rang (advancedOf s N l)))
         (λ c. roomy-keeps l (rang (advancedOf s N l)) (on .advances N l c))
 
     -- turn
-    pub turn-keeps : (N : ℕ) (l : List ℕ) → P (turnOf s N l .state .set)
+    pub turn-keeps-it : (N : ℕ) (l : List ℕ) → P (turnOf s N l .state .set)
     unfolding turnOf
-    turn-keeps N l =
+    turn-keeps-it N l =
         guarded-keeps (λ (x : Lent). P (x .set)) s (lent s l) (k .now) (roomy s l (rang (advancedOf (drainedOf s) N l)))
         (λ c. roomy-keeps l (rang (advancedOf (drainedOf s) N l)) (on .turns N l c))
 
     -- close
-    pub close-keeps : P (closeOf s .state)
+    pub close-keeps-it : P (closeOf s .state)
     unfolding closeOf
-    close-keeps = guarded-keeps P s s (k .now) (gives (closedOf s) nothing) (on .closes)
+    close-keeps-it = guarded-keeps P s s (k .now) (gives (closedOf s) nothing) (on .closes)
 
     -- every call
-    pub step-keeps : (c : Call) (l : List ℕ) → P (step s c l .state .set)
+    pub step-keeps-it : (c : Call) (l : List ℕ) → P (step s c l .state .set)
     unfolding step
-    step-keeps (C.Add d) l = add-keeps d
-    step-keeps (C.Reset h d) l = reset-keeps h d
-    step-keeps (C.Cancel h) l = cancel-keeps h
-    step-keeps C.Drain l = drain-keeps (on .drains)
-    step-keeps (C.Advance N) l = advance-keeps N l
-    step-keeps (C.Turn N) l = turn-keeps N l
-    step-keeps C.NextWake l = wake-keeps
-    step-keeps (C.Poll h) l = poll-keeps h
-    step-keeps C.Close l = close-keeps
-    step-keeps (C.Tick h p period N) l = tick-keeps h p period N
-    step-keeps (C.Restart h period N) l = restart-keeps h period N
+    step-keeps-it (C.Add d) l = add-keeps-it d
+    step-keeps-it (C.Reset h d) l = reset-keeps-it h d
+    step-keeps-it (C.Cancel h) l = cancel-keeps-it h
+    step-keeps-it C.Drain l = drain-keeps-it (on .drains)
+    step-keeps-it (C.Advance N) l = advance-keeps-it N l
+    step-keeps-it (C.Turn N) l = turn-keeps-it N l
+    step-keeps-it C.NextWake l = wake-keeps-it
+    step-keeps-it (C.Poll h) l = poll-keeps-it h
+    step-keeps-it C.Close l = close-keeps-it
+    step-keeps-it (C.Tick h p period N) l = tick-keeps-it h p period N
+    step-keeps-it (C.Restart h period N) l = restart-keeps-it h period N

@@ -17,12 +17,13 @@ use Rattle.state.specs.Sound.{Sound}
 use Rattle.timers.specs.declared.Call.{Call}
 use Rattle.moves.specs.Rules.{touchedOf, lowestFree, drainedOf}
 use Rattle.timers.specs.Calls.{Timing, liveAt, addOf, resetTo, resetOf, cancelOf, drainOf, tickAt, restartAt, step}
-use Rattle.laws.proofs.Words.{Words, live-small, other-small, touched-words, drain-words}
-use Rattle.laws.proofs.WordsKept.{advanced-words, closed-words}
+use Rattle.laws.specs.Words.{Words}
+use Rattle.laws.proofs.Words.{live-small, other-small, touched-words, drain-words}
+use Rattle.laws.proofs.WordsKept.{advanced-words-kept, closed-words}
 use Rattle.laws.proofs.Found.{reset-unmarked, reset-small, lowest-in, live-in}
 use Rattle.laws.proofs.Touch.{touched-sound}
 use Rattle.laws.proofs.DrainSound.{drained-sound}
-use Rattle.laws.proofs.CallsKeep.{Kept, add-keeps, reset-keeps, cancel-keeps, drain-keeps, tick-keeps, restart-keeps, step-keeps}
+use Rattle.laws.proofs.CallsKeep.{Kept, add-keeps-it, reset-keeps-it, cancel-keeps-it, drain-keeps-it, tick-keeps-it, restart-keeps-it, step-keeps-it}
 
 module _ (s : Set) (o : Sound s) where
   -- an add, in the lowest free place
@@ -46,32 +47,32 @@ module _ (s : Set) (o : Sound s) where
 
   -- add
   pub add-sound : (d : ℕ) → Sound (addOf s d .state)
-  add-sound = add-keeps Sound s sound-kept
+  add-sound = add-keeps-it Sound s sound-kept
 
   -- reset
   pub reset-sound : (h : Handle) (d : ℕ) → Sound (resetOf s h d .state)
-  reset-sound = reset-keeps Sound s sound-kept
+  reset-sound = reset-keeps-it Sound s sound-kept
 
   -- cancel
   pub cancel-sound : (h : Handle) → Sound (cancelOf s h .state)
-  cancel-sound = cancel-keeps Sound s sound-kept
+  cancel-sound = cancel-keeps-it Sound s sound-kept
 
   -- tick
   pub tick-sound : (h : Handle) (p : Policy) (period N : ℕ) → Sound (tickAt s h p period N .state)
-  tick-sound = tick-keeps Sound s sound-kept
+  tick-sound = tick-keeps-it Sound s sound-kept
 
   -- interval reset
   pub restart-sound : (h : Handle) (period N : ℕ) → Sound (restartAt s h period N .state)
-  restart-sound = restart-keeps Sound s sound-kept
+  restart-sound = restart-keeps-it Sound s sound-kept
 
   -- drain
   pub drain-sound : Words s → Sound (drainOf s .state)
-  drain-sound w = drain-keeps Sound s sound-kept (λ c. drained-sound s o c w)
+  drain-sound w = drain-keeps-it Sound s sound-kept (λ c. drained-sound s o c w)
 
 -- every call, of any set
 pub step-words : (s : Set) → Words s → (c : Call) (l : List ℕ) → Words (step s c l .state .set)
 step-words s w =
-    step-keeps Words s
+    step-keeps-it Words s
     (record {
       now = w;
       adds = λ p d _ _. touched-words s p (Live 0 d) w (live-small 0 d (omega arith));
@@ -80,8 +81,8 @@ step-words s w =
     })
     (record {
       drains = λ _. drained s w;
-      advances = λ N l _. advanced-words s N l w;
-      turns = λ N l _. advanced-words (drainedOf s) N l (drained s w);
+      advances = λ N l _. advanced-words-kept s N l w;
+      turns = λ N l _. advanced-words-kept (drainedOf s) N l (drained s w);
       closes = λ _. closed-words s w;
     })
   where

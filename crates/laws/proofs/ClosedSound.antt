@@ -22,8 +22,9 @@ use Rattle.state.specs.declared.Timer.{Timer}
 use Rattle.state.specs.declared.Set.{Set}
 use Rattle.state.specs.State.{timerAt, isWaiting, headOf}
 use Rattle.state.specs.Faults.{waitsAt, afterAt}
-use Rattle.state.specs.Sound.{Unused, Sound}
+use Rattle.state.specs.Sound.{Sound}
 use Rattle.moves.specs.Rules.{markedLife, unlistFrom, poppedOf, emptyFrom, sealed, closedOf}
+use Rattle.laws.specs.Advanced.{Shut}
 use Rattle.laws.proofs.Ties.{Fine, tied-sound}
 use Rattle.laws.proofs.Popping.{pop-len, headless-all, headless-tied, headless-listed}
 use Rattle.laws.proofs.Closing.{Closing, sound-closing, marked-fine}
@@ -106,13 +107,6 @@ module _ (s : Set) (m : Emptied s) where
       (record { timers-long = t .timers-long; heap-sound = t .heap-sound; names = t .names; ranges = t .ranges })
       (λ k e l. let r = lookup-some (s .heap) (sound-slab (s .heap) (t .heap-sound)) k e l in absurd (omega (arith, r .1, m .none-left)))
       (m .closing .listed) (m .closing .fine) (λ _. m .no-first) (λ _. m .none-left)
-
--- a set that is closed for good: its list and its heap are empty, no timer waits, and none names a slot
-pub record Shut (s : Set) : Type 0 where
-  pub is-closed : s .closed ≡ true
-  pub no-first : s .first ≡ First.Nothing
-  pub none-left : s .heap .len ≡ 0
-  pub unused : (p : ℕ) → p < cap → Unused (timerAt s p)
 
 module _ (s : Set) (ok : Sound s) where
   emptied-of : Emptied (emptyFrom (unlistFrom cap s .heap .len) (unlistFrom cap s))

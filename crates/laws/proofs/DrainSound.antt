@@ -20,7 +20,8 @@ use Rattle.state.specs.State.{timerAt, isWaiting, headOf}
 use Rattle.state.specs.Faults.{waitsAt, afterAt}
 use Rattle.state.specs.Sound.{Sound}
 use Rattle.moves.specs.Rules.{settledOf, listTurn, drainFrom, drainedOf}
-use Rattle.laws.proofs.Words.{Words, settled-words}
+use Rattle.laws.specs.Words.{Words}
+use Rattle.laws.proofs.Words.{settled-words}
 use Rattle.laws.proofs.OpenSet.{Open, sound-open, open-sound}
 use Rattle.laws.proofs.ListChange.{waits-in, first-waits}
 use Rattle.laws.proofs.Settle.{waits-below, settled-settles}

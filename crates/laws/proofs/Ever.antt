@@ -17,21 +17,22 @@ use Rattle.timers.specs.declared.Call.{Call}
 use Rattle.moves.specs.Rules.{drainedOf}
 use Rattle.timers.specs.Calls.{Value, handle, liveAt, addOf, cancelOf, after}
 use Rattle.timers.proofs.Guarding.{not-both}
+use Rattle.laws.specs.Past.{Given, Past}
+use Rattle.laws.specs.ByHandle.{stepped}
 use Rattle.laws.proofs.Places.{Each}
 use Rattle.laws.proofs.ByHandle.{handleAt}
-use Rattle.laws.proofs.Past.{Given, Past, Later, later-order, added-later, touched-later, drained-later, advanced-later, closed-later}
+use Rattle.laws.proofs.Past.{Later, later-order, added-later, touched-later, drained-later, advanced-later, closed-later}
 use Rattle.laws.proofs.PastLaws.{past-dead, live-given, given-dead, added-new, cancelled-past}
 use Rattle.laws.proofs.CallCases.{add-by, cancel-by}
-use Rattle.laws.proofs.CallsKeep.{step-keeps}
+use Rattle.laws.proofs.CallsKeep.{step-keeps-it}
 use Rattle.laws.proofs.ByHandleCalls.{add-lives}
-use Rattle.laws.proofs.ByHandleSteps.{stepped}
 
 -- ONE CALL
 
 -- after any call each place is later
 pub step-later : (s : Set) (c : Call) (l : List ℕ) → Each Later s (stepped s c l)
 step-later s =
-    step-keeps (Each Later s) s
+    step-keeps-it (Each Later s) s
     (record {
       now = λ p. later-order .blind (timerAt s p) (timerAt s p) refl refl;
       adds = λ p d _ e. added-later s p d e;

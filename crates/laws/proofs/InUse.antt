@@ -21,15 +21,17 @@ use Rattle.state.specs.declared.Life.the-variants.{Live, Cancelled}
 use Rattle.state.specs.declared.Set.{Set}
 use Rattle.state.specs.declared.Handle.{Handle}
 use Rattle.state.specs.State.{noTimer}
+use Rattle.state.specs.InUse.{Twins}
 use Rattle.state.proofs.PlaceTest.{ref-self}
-use Rattle.state.proofs.InUse.{Twins, heap-twins, by-heap}
+use Rattle.state.proofs.InUse.{heap-twins, by-heap}
 use Rattle.timers.specs.declared.Call.{Call}
 use Rattle.timers.specs.declared.Call.the-variants as C
 use Rattle.moves.specs.Rules.{taken, lowestFree, Ring}
 use Rattle.timers.specs.Calls.{Value, nothing, handle, counts, wake, polled, time, Timing, gives, addedAt, addOf, resetTo, resetOf, cancelOf, drainOf, rang, roomy, advanceOf, turnOf, wakeBy, nextWakeOf, pollBy, pollOf, closeOf, tickedBy, tickAt, restartedBy, restartAt, with-list, step}
+use Rattle.laws.specs.InUse.{SameOutcome, SameLent}
 use Rattle.laws.proofs.InUseDrain.{Alike, touched-alike, drain-alike}
 use Rattle.laws.proofs.InUseRings.{SameRing, advanced-same, closed-alike}
-use Rattle.laws.proofs.InUseGuards.{SameOutcome, SameLent, kept-same, gives-same, guarded-same, open-same, alive-same}
+use Rattle.laws.proofs.InUseGuards.{kept-same, gives-same, guarded-same, open-same, alive-same}
 
 module _ {a b : Set} (r : Twins a b) where
   add-same : (d : ℕ) → SameOutcome Twins (addOf a d) (addOf b d)

@@ -23,7 +23,8 @@ use Rattle.state.specs.declared.First.the-variants as First
 use Rattle.state.specs.declared.Timer.{Timer}
 use Rattle.state.specs.declared.Set.{Set}
 use Rattle.state.specs.State.{timerAt, headAfter}
-use Rattle.state.proofs.InUse.{Twins, over, by-heap}
+use Rattle.state.specs.InUse.{Twins}
+use Rattle.state.proofs.InUse.{over, by-heap}
 use Rattle.moves.specs.Rules.{withFirst, touchedOf, droppedOf, heldBy, settledBy, settledOf, listTurn, drainFrom}
 
 -- two sets that differ only in room not in use, whose heaps are sound

@@ -10,21 +10,13 @@ use Rattle.refusals.specs.Answer.{Outcome, kept}
 use Rattle.heap.proofs.InUseWalks.{choose-ref}
 use Rattle.state.specs.declared.Set.{Set}
 use Rattle.state.specs.declared.Handle.{Handle}
+use Rattle.state.specs.InUse.{Twins}
 use Rattle.state.proofs.PlaceTest.{ref-self}
 use Rattle.state.proofs.Parts.{ref-passed}
-use Rattle.state.proofs.InUse.{Twins, by-heap, sound-in-use}
-use Rattle.timers.specs.Calls.{Value, Lent, Timing, gives, guarded, opened, liveAt, alive}
+use Rattle.state.proofs.InUse.{by-heap, sound-in-use}
+use Rattle.timers.specs.Calls.{Value, Timing, gives, guarded, opened, liveAt, alive}
+use Rattle.laws.specs.InUse.{SameOutcome}
 use Rattle.laws.proofs.InUseDrain.{Alike}
-
--- the same answer, and states that are related
-pub record SameOutcome {S : Type 0} (R : S → S → Type 0) (o q : Outcome S Value) : Type 0 where
-  pub answers : o .answer ≡ q .answer
-  pub states : R (o .state) (q .state)
-
--- sets that differ only in room not in use, and the same list
-pub record SameLent (x y : Lent) : Type 0 where
-  pub sets : Twins (x .set) (y .set)
-  pub lists : x .list ≡ y .list
 
 -- a refusal leaves both as they were
 pub kept-same : {S : Type 0} (R : S → S → Type 0) {k j : S} → R k j → (n : ℕ) → SameOutcome R (kept k n) (kept j n)

@@ -28,6 +28,7 @@ use Rattle.state.specs.State.{noTimer, timerAt, isWaiting, nextIn, headOf, head
 use Rattle.state.specs.Faults.{waitsAt, afterAt}
 use Rattle.moves.specs.Rules.{linkTo}
 use Rattle.laws.proofs.Change.{changed, timer-here}
+use Rattle.laws.proofs.Ties.{Listed}
 
 -- a link to the head waits, and names the head
 pub link-waits : (f : First) → isWaiting (linkTo f) ≡ true
@@ -43,10 +44,6 @@ after-next : (w : Waiting) → headOf (headAfter w) ≡ nextIn w
 after-next No = refl
 after-next Last = refl
 after-next (Before q) = refl
-
--- the list is right: it holds exactly the waiting timers, each once
-abbrev pub Listed : Set → Type 0
-Listed s = chainOkb (waitsAt s) (afterAt s) cap (headOf (s .first)) ≡ true
 
 -- the places in the list, in its order
 unfoldable pub listOf : Set → List ℕ

@@ -1,13 +1,11 @@
--- Use numbers never fall, and what is over stays over. A handle was given out where its place's use number is above its own, or is its
--- own and the place is not free; it is past where the number is above its own, or is its own and the place is cancelled or retired.
--- Every rule keeps both. A handle that is past is dead.
+-- Use numbers never fall; a handle that was given out stays so, and what is over stays over: every rule keeps both.
 -- Assumes nothing.
 use mathlib.Core.Path.{_≡_, refl, sym, _∙_, ap}
-use mathlib.Core.Logic.{_⊎_, inl, inr, ⊎-elim}
+use mathlib.Core.Logic.{inl, inr, ⊎-elim}
 use mathlib.Core.Bool.{Bool, true, false, not}
 use mathlib.Core.Option.{some}
 use mathlib.Core.List.{List}
-use Prim.Native.Nat.{ℕ, _≤_, _<_}
+use Prim.Native.Nat.{ℕ, _≤_}
 use native.Mathlib.Omega.{arith}
 use Rattle.theory.proofs.Tests.{ref-eq, cond-ref, true-false}
 use Rattle.state.specs.declared.Life.{Life}
@@ -21,32 +19,10 @@ use Rattle.state.specs.declared.Handle.{Handle}
 use Rattle.state.specs.State.{timerAt}
 use Rattle.moves.specs.Rules.{isFree, touchedOf, lowestFree, freedOf, drainedOf, rungLife, rungTimer, advancedOf, markedLife, closedOf}
 use Rattle.timers.specs.Calls.{Timing, liveAt}
+use Rattle.laws.specs.Past.{isOver, isTaken, Reached}
 use Rattle.laws.proofs.Found.{lowest-free}
 use Rattle.laws.proofs.Naming.{live-told}
 use Rattle.laws.proofs.Places.{Order, Each, touched-each, drained-each, advanced-each, closed-each}
-
--- cancelled or retired
-abbrev pub isOver : Life → Bool
-isOver Free = false
-isOver (Live w d) = false
-isOver (Cancelled w) = true
-isOver Retired = true
-
--- not free
-abbrev pub isTaken : Life → Bool
-isTaken l = not (isFree l)
-
--- the use number u has been passed, or is the timer's own and its life meets a test
-abbrev pub Reached : (Life → Bool) → Timer → ℕ → Type 0
-Reached f t u = (u < t .uses) ⊎ ((u ≡ t .uses) × (f (t .life) ≡ true))
-
--- a handle that was given out
-abbrev pub Given : Set → Handle → Type 0
-Given s h = Reached isTaken (timerAt s (h .place .0)) (h .uses)
-
--- a handle that is past
-abbrev pub Past : Set → Handle → Type 0
-Past s h = Reached isOver (timerAt s (h .place .0)) (h .uses)
 
 -- a timer's use number is no lower than it was, and what was given out or over is
 pub record Later (t r : Timer) : Type 0 where

@@ -17,10 +17,10 @@ use Rattle.state.specs.declared.Handle.{Handle}
 use Rattle.state.specs.State.{timerAt}
 use Rattle.moves.specs.Rules.{touchedOf, lowestFree}
 use Rattle.timers.specs.Calls.{Timing, timingOf, liveAt}
+use Rattle.laws.specs.Past.{isOver, isTaken, Given, Past}
 use Rattle.laws.proofs.Found.{lowest-free}
 use Rattle.laws.proofs.Naming.{names-same, names-other, live-in-range, live-none, live-told}
 use Rattle.laws.proofs.ByHandle.{handleAt, touched-here}
-use Rattle.laws.proofs.Past.{isOver, isTaken, Given, Past}
 
 over-dead : (l : Life) → isOver l ≡ true → timingOf l ≡ none
 over-dead Free e = refl

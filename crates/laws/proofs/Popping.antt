@@ -34,6 +34,7 @@ use Rattle.state.specs.declared.Set.{Set}
 use Rattle.state.specs.State.{noTimer, timerAt, isWaiting, nextIn, headOf}
 use Rattle.state.specs.Faults.{waitsAt, afterAt}
 use Rattle.moves.specs.Rules.{withTimer, withHeap}
+use Rattle.laws.proofs.OpenSlots.{nothing-at}
 use Rattle.laws.proofs.Ties.{Tied, Owned, Listed}
 
 -- a pop of a heap that is not empty takes one entry
@@ -52,10 +53,6 @@ pop-left : (h : Heap) → Slab h → 0 < h .len → (k : ℕ) (e : Entry) → lo
 pop-left h s b k e l =
     let n : k ≡ slotAt h 0 → ⊥ = λ x. none-some (ap (lookup (popSound h .state)) x ∙ pop-gone h s b) l in
     (n, sym (pop-other h s b k n) ∙ l)
-
--- a slot named is not nothing
-pub nothing-at : {x : Held} {q : Slot} → x ≡ Held.Nothing → x ≡ Held.At q → ⊥
-nothing-at a b = let z : _≡_ {A = ℕ} 0 1 = cc in omega arith
 
 -- a place names one slot
 one-slot : {x : Held} {q r : Slot} → x ≡ Held.At q → x ≡ Held.At r → q .0 ≡ r .0

@@ -31,12 +31,12 @@ use Rattle.state.specs.State.{timerAt, isWaiting, headAfter}
 use Rattle.state.specs.Faults.{waitsAt}
 use Rattle.state.specs.Sound.{Unused, Sound}
 use Rattle.moves.specs.Rules.{withFirst, droppedOf, heldBy, freedOf, settledBy, settledOf}
+use Rattle.laws.specs.Words.{Words}
 use Rattle.laws.proofs.OpenSlots.{Slots, slots-dropped, slots-pushed}
 use Rattle.laws.proofs.Room.{room}
 use Rattle.laws.proofs.Lives.{Lives, lives-live}
 use Rattle.laws.proofs.Freed.{freed-held, freed-waiting, freed-lives}
 use Rattle.laws.proofs.Change.{heldAt, changed, held-there, timer-here}
-use Rattle.laws.proofs.Words.{Words}
 use Rattle.laws.proofs.OpenSet.{Open, sound-open, open-sound, open-changed}
 use Rattle.laws.proofs.ListChange.{listOf, waits-in, first-waits, list-popped, list-pop, waits-fall}
 

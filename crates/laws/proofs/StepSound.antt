@@ -1,10 +1,9 @@
 -- Every call keeps a sound set sound, and the fresh set is sound: so from fresh, refusal 1 never comes.
 -- Assumes nothing.
-use mathlib.Core.Path.{_≡_, sym, _∙_}
-use mathlib.Core.Bool.{Bool, true, false}
+use mathlib.Core.Path.{_≡_}
+use mathlib.Core.Bool.{true}
 use mathlib.Core.List.{List, [], _∷_}
 use Prim.Native.Nat.{ℕ}
-use Rattle.heap.specs.Capacity.{cap}
 use Rattle.state.specs.declared.Set.{Set}
 use Rattle.state.specs.State.{freshOf}
 use Rattle.state.specs.Faults.{soundOf}
@@ -13,10 +12,11 @@ use Rattle.state.proofs.FreshSound.{fresh-sound}
 use Rattle.state.proofs.Test.{sound-tells}
 use Rattle.timers.specs.declared.Call.{Call}
 use Rattle.moves.specs.Rules.{drainedOf}
-use Rattle.timers.specs.Calls.{Lent, lent, step, after}
-use Rattle.laws.proofs.Words.{Words, fresh-words, drain-words}
-use Rattle.laws.proofs.DrainSound.{drained-sound, drained-open}
-use Rattle.laws.proofs.CallsKeep.{step-keeps}
+use Rattle.timers.specs.Calls.{step, after}
+use Rattle.laws.specs.Words.{Words, Fit}
+use Rattle.laws.proofs.Words.{fresh-words}
+use Rattle.laws.proofs.DrainSound.{drained-sound}
+use Rattle.laws.proofs.CallsKeep.{step-keeps-it}
 use Rattle.laws.proofs.CallsSound.{sound-kept, step-words}
 use Rattle.laws.proofs.AdvancedSound.{advanced-sound}
 use Rattle.laws.proofs.ClosedSound.{closed-sound}
@@ -24,18 +24,13 @@ use Rattle.laws.proofs.ClosedSound.{closed-sound}
 -- every call keeps a sound set sound, whether it is accepted or not
 pub step-sound : (s : Set) → Sound s → Words s → (c : Call) (l : List ℕ) → Sound (step s c l .state .set)
 step-sound s o w =
-    step-keeps Sound s (sound-kept s o)
+    step-keeps-it Sound s (sound-kept s o)
     (record {
       drains = λ c. drained-sound s o c w;
       advances = λ N l _. advanced-sound s N l o;
       turns = λ N l c. advanced-sound (drainedOf s) N l (drained-sound s o c w);
       closes = λ _. closed-sound s o;
     })
-
--- a sound set, with words that fit, as every set of the code has
-pub record Fit (s : Set) : Type 0 where
-  pub sound : Sound s
-  pub words : Words s
 
 -- after any calls from fresh, each with a lent list of its own, the set is sound
 pub after-fit : (cs : List (Call × List ℕ)) (s : Set) → Fit s → Fit (after cs s)

@@ -2,14 +2,14 @@
 -- changed by a given relation at most. A firing and an invalid mark are two such.
 -- Assumes nothing.
 use mathlib.Core.Path.{_≡_, refl, _∙_, ap, subst}
-use mathlib.Core.Logic.{_⊎_, inl, inr, ⊎-elim}
+use mathlib.Core.Logic.{inl, inr, ⊎-elim}
 use mathlib.Core.Bool.{Bool, true, false, cond}
 use mathlib.Core.Option.{Option, none, some}
 use Prim.Native.Nat.{ℕ, _*_, _/_, _%_}
 use native.Mathlib.Omega.{arith}
 use lib.Dec.{eqb}
 use Rattle.theory.proofs.Tests.{none-some, cond-ref, ref-eq}
-use Rattle.word.specs.Rules.{generationOf, invalidIn, firedIn, firedOf, invalidOf}
+use Rattle.word.specs.Rules.{generationOf, invalidIn, firedIn, invalidOf}
 use Rattle.state.specs.declared.Life.{Life}
 use Rattle.state.specs.declared.Life.the-variants.{Free, Live, Cancelled, Retired}
 use Rattle.state.specs.declared.Waiting.{Waiting}
@@ -18,20 +18,9 @@ use Rattle.state.specs.declared.Held.the-variants as Held
 use Rattle.state.specs.declared.Timer.{Timer}
 use Rattle.moves.specs.Rules.{rungWord, rungLife, rungTimer, markedLife}
 use Rattle.timers.specs.Calls.{Timing, timingOf}
+use Rattle.laws.specs.ByHandle.{Same, Fires, Marks, Still}
 use Rattle.laws.proofs.Naming.{names}
 use Rattle.laws.proofs.Places.{Order}
-
--- the word stays
-abbrev pub Same : ℕ → ℕ → Type 0
-Same w v = v ≡ w
-
--- the word stays, or is one with neither mark and gets the fired bit
-abbrev pub Fires : ℕ → ℕ → Type 0
-Fires w v = (v ≡ w) ⊎ ((w % 4 ≡ 0) × (v ≡ firedOf w))
-
--- the word stays, or gets the invalid bit
-abbrev pub Marks : ℕ → ℕ → Type 0
-Marks w v = (v ≡ w) ⊎ (v ≡ invalidOf w)
 
 -- a firing keeps the generation
 pub fires-generation : (w v : ℕ) → Fires w v → generationOf v ≡ generationOf w
@@ -49,14 +38,9 @@ marks-generation w v = ⊎-elim (λ e. ap generationOf e) (λ e. omega arith)
 pub marks-fired : (w v : ℕ) → Marks w v → firedIn v ≡ firedIn w
 marks-fired w v = ⊎-elim (λ e. ap firedIn e) (λ e. let q : v % 2 ≡ w % 2 = omega arith in ap (λ (b : ℕ). eqb b 1) q)
 
--- what a handle named, and what it names then
-pub record Still (W : ℕ → ℕ → Type 0) (o r : Option Timing) : Type 0 where
-  pub dead : o ≡ none → r ≡ none
-  pub live : (t : Timing) → o ≡ some t → (v : ℕ) × (W (t .word) v) × (r ≡ some (record { word = v; due = t .due }))
-
 -- to every handle the timer is what it was, but for the word
-abbrev pub Stays : (ℕ → ℕ → Type 0) → Timer → Timer → Type 0
-Stays W t r = (u : ℕ) → Still W (names t u) (names r u)
+abbrev pub StaysFor : (ℕ → ℕ → Type 0) → Timer → Timer → Type 0
+StaysFor W t r = (u : ℕ) → Still W (names t u) (names r u)
 
 -- relations of words under which the same word stands, and two changes make one
 pub record Changes (W : ℕ → ℕ → Type 0) : Type 0 where
@@ -102,7 +86,7 @@ module _ (W : ℕ → ℕ → Type 0) (c : Changes W) where
   }
 
   -- this is such a relation of timers as the walks ask for
-  pub stays-order : Order (Stays W)
+  pub stays-order : Order (StaysFor W)
   unfolding names
   stays-order = record {
     blind = λ t r l e u. still-same (names t u) (names r u) (cc);
@@ -125,7 +109,7 @@ module _ (W : ℕ → ℕ → Type 0) (c : Changes W) where
   -- a timer whose live word changes as the relation says, and whose deadline and use number stay
   pub stays-life : (t : Timer) (m : Life) (w : Waiting) (d : Held)
       → ((w d : ℕ) → t .life ≡ Live w d → (v : ℕ) × (W w v) × (m ≡ Live v d)) → (timingOf (t .life) ≡ none → timingOf m ≡ none)
-      → Stays W t (record { life = m; waiting = w; held = d; uses = t .uses })
+      → StaysFor W t (record { life = m; waiting = w; held = d; uses = t .uses })
   unfolding names
   stays-life t m w d f g u = stays-by (eqb (t .uses) u) (t .life) m f g
 
@@ -134,7 +118,7 @@ pub rung-fires : (w g : ℕ) → Fires w (rungWord w g)
 rung-fires w g = cond-ref (λ v. Fires w v) (ref-eq w (g * 4)) (λ e. inr (omega arith, refl)) (λ n. inl refl)
 
 -- a pop's timer
-pub rung-stays : (g : ℕ) (t : Timer) → Stays Fires t (rungTimer g t)
+pub rung-stays : (g : ℕ) (t : Timer) → StaysFor Fires t (rungTimer g t)
 rung-stays g t =
     stays-life Fires fires-changes t (rungLife g (t .life)) (t .waiting) Held.Nothing
     (λ w d e. (rungWord w g, rung-fires w g, ap (rungLife g) e)) (dead (t .life))
@@ -147,7 +131,7 @@ rung-stays g t =
 
 -- a timer that a close meets
 pub marked-stays : (t : Timer) (w : Waiting)
-    → Stays Marks t (record { life = markedLife (t .life); waiting = w; held = Held.Nothing; uses = t .uses })
+    → StaysFor Marks t (record { life = markedLife (t .life); waiting = w; held = Held.Nothing; uses = t .uses })
 marked-stays t w =
     stays-life Marks marks-changes t (markedLife (t .life)) w Held.Nothing
     (λ w d e. (invalidOf w, inr refl, ap markedLife e)) (dead (t .life))

@@ -22,7 +22,8 @@ use Rattle.laws.proofs.OpenSlots.{Slots, slots-same}
 use Rattle.laws.proofs.Lives.{Lives, lives-live, lives-cancelled}
 use Rattle.laws.proofs.Change.{heldAt, changed}
 use Rattle.laws.proofs.OpenSet.{Open, sound-open, open-sound, open-changed}
-use Rattle.laws.proofs.ListChange.{link-waits, Listed, listOf, list-stays, list-kept, waits-here, list-pushed, list-push}
+use Rattle.laws.proofs.Ties.{Listed}
+use Rattle.laws.proofs.ListChange.{link-waits, listOf, list-stays, list-kept, waits-here, list-pushed, list-push}
 
 -- the new life of a touched timer: live or cancelled, and not marked invalid
 abbrev pub Unmarked : Life → Type 0

@@ -9,10 +9,8 @@ use native.Mathlib.Omega.{arith}
 use lib.Dec.{ltb}
 use lib.ListN.{length-set}
 use lib.Seq.{getD-set-same, getD-set-other}
-use borrow.Author.Tests.{ltb-true}
 use Rattle.theory.specs.Counting.{count}
 use Rattle.theory.specs.Chain.{chainOkb}
-use Rattle.theory.proofs.Tests.{and-left}
 use Rattle.theory.proofs.Stores.{set-all}
 use Rattle.theory.proofs.Counting.{count-off, count-zero}
 use Rattle.theory.proofs.ChainTest.{ok-head}
@@ -31,14 +29,10 @@ use Rattle.state.specs.declared.Set.{Set}
 use Rattle.state.specs.State.{noTimer, timerAt, isWaiting, nextIn, headOf, headAfter}
 use Rattle.state.specs.Faults.{waitsAt, afterAt}
 use Rattle.moves.specs.Rules.{listTurn, markedLife, unlistedOf, unlistFrom}
+use Rattle.laws.proofs.OpenSlots.{nothing-at}
+use Rattle.laws.proofs.Settle.{waits-below}
 use Rattle.laws.proofs.Ties.{Fine}
-use Rattle.laws.proofs.Popping.{nothing-at}
 use Rattle.laws.proofs.Closing.{Closing, marked-fine}
-
--- a waiting timer's place is one of the set's
-pub waits-below : (s : Set) (p : ℕ) → waitsAt s p ≡ true → p < cap
-unfolding waitsAt
-waits-below s p e = ltb-true p cap (and-left (ltb p cap) (isWaiting (timerAt s p .waiting)) e)
 
 -- the head of the list once a timer is taken off is the one that it named
 head-next : (w : Waiting) → headOf (headAfter w) ≡ nextIn w

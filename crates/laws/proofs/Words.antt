@@ -17,17 +17,9 @@ use Rattle.state.specs.declared.Timer.{Timer}
 use Rattle.state.specs.declared.Set.{Set}
 use Rattle.state.specs.State.{noTimer, timerAt, isWaiting, headAfter, freshOf}
 use Rattle.moves.specs.Rules.{withFirst, waitingBy, headBy, touchedOf, freedOf, settledBy, settledOf, listTurn, drainFrom}
+use Rattle.laws.specs.Words.{Small, Words}
 use Rattle.laws.proofs.Freed.{freed-by}
 use Rattle.laws.proofs.Change.{changed}
-
--- the word of a life, where it is live, has 32 bits
-pub record Small (l : Life) : Type 0 where
-  pub bits : (w d : ℕ) → l ≡ Live w d → w < 2 ^ 32
-
--- there are as many places as the capacity, and the words of the live timers have 32 bits
-pub record Words (s : Set) : Type 0 where
-  pub long : length (s .timers) ≡ cap
-  pub small : (p : ℕ) → p < cap → Small (timerAt s p .life)
 
 -- a live word that has 32 bits
 pub live-small : (w d : ℕ) → w < 2 ^ 32 → Small (Live w d)

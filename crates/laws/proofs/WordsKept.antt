@@ -17,7 +17,8 @@ use Rattle.state.specs.declared.First.the-variants as First
 use Rattle.state.specs.declared.Set.{Set}
 use Rattle.state.specs.State.{timerAt, headAfter}
 use Rattle.moves.specs.Rules.{listTurn, Ring, dueBy, rungWord, rungLife, rungOf, ringFrom, advancedOf, markedLife, unlistedOf, unlistFrom, poppedOf, emptyFrom, closedOf}
-use Rattle.laws.proofs.Words.{Small, Words, live-small, other-small, words-changed}
+use Rattle.laws.specs.Words.{Small, Words}
+use Rattle.laws.proofs.Words.{live-small, other-small, words-changed}
 
 -- a firing sets a bit of the 32
 rung-small : (g : ℕ) (l : Life) → Small l → Small (rungLife g l)
@@ -53,9 +54,9 @@ ring-words (suc k) r N w = go (dueBy (r .set .heap) N) (ring-words k (rungOf r) 
     go false x = w
 
 -- an advance
-pub advanced-words : (s : Set) (N : ℕ) (l : List ℕ) → Words s → Words (advancedOf s N l .set)
+pub advanced-words-kept : (s : Set) (N : ℕ) (l : List ℕ) → Words s → Words (advancedOf s N l .set)
 unfolding advancedOf
-advanced-words s N l w = ring-words (s .heap .len) (record { set = s; list = l; reported = 0; popped = 0 }) N w
+advanced-words-kept s N l w = ring-words (s .heap .len) (record { set = s; list = l; reported = 0; popped = 0 }) N w
 
 unlisted-words : (s : Set) (p : ℕ) → Words s → Words (unlistedOf s p)
 unfolding unlistedOf

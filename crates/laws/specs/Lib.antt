@@ -1,1 +1,6 @@
 pub mod Table
+pub mod Words
+pub mod Advanced
+pub mod ByHandle
+pub mod Past
+pub mod InUse

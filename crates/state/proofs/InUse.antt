@@ -20,24 +20,18 @@ use Rattle.heap.specs.declared.fault.Fault.the-variants as H
 use Rattle.heap.specs.Rules.{stateAt}
 use Rattle.heap.specs.Faults as Heaps
 use Rattle.heap.specs.Sound.{Sound}
+use Rattle.heap.specs.InUse as Heap
 use Rattle.heap.proofs.Items.{and-same}
 use Rattle.heap.proofs.SoundFacts.{full-back}
 use Rattle.heap.proofs.Test.{consistent-sound}
 use Rattle.heap.proofs.InUseTest as HeapTest
-use Rattle.heap.specs.InUse as Heap
 use Rattle.state.specs.declared.Held.{Held}
 use Rattle.state.specs.declared.Held.the-variants as Held
 use Rattle.state.specs.declared.Set.{Set}
 use Rattle.state.specs.declared.fault.Fault.the-variants.{List, Place}
 use Rattle.state.specs.State.{timerAt}
 use Rattle.state.specs.Faults.{heapFault, waitsAt, afterAt, listScan, entryHas, heldOk, lifeOk, closedOk, placeOk, entryFits, entryOk, lower, entryScan, firstPlace, placeScan, faultBy, orElse, faultOf, isNo, soundOf}
-use Rattle.state.specs.InUse.{SameInUse}
-
--- two sets of the code that differ only in room not in use
-pub record Twins (a b : Set) : Type 0 where
-  pub same : SameInUse a b
-  pub left : Heap.Long (a .heap)
-  pub right : Heap.Long (b .heap)
+use Rattle.state.specs.InUse.{SameInUse, Twins}
 
 -- their heaps differ only there
 pub heap-twins : {a b : Set} → Twins a b → Heap.Twins (a .heap) (b .heap)

@@ -11,3 +11,9 @@ pub record SameInUse (a b : Set) : Type 0 where
   pub same-timers : a .timers ≡ b .timers
   pub same-first : a .first ≡ b .first
   pub same-closed : a .closed ≡ b .closed
+
+-- two sets of the code that differ only in room not in use
+pub record Twins (a b : Set) : Type 0 where
+  pub same : SameInUse a b
+  pub left : Heap.Long (a .heap)
+  pub right : Heap.Long (b .heap)
