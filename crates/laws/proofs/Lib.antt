@@ -42,3 +42,4 @@ pub mod CallCases
 pub mod ByHandleCalls
 pub mod ByHandleSteps
 pub mod Ever
+pub mod Reports

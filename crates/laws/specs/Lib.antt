@@ -4,3 +4,4 @@ pub mod Advanced
 pub mod ByHandle
 pub mod Past
 pub mod InUse
+pub mod Reports
