@@ -16,7 +16,8 @@ use Rattle.state.specs.declared.Life.{Life}
 use Rattle.state.specs.declared.Life.the-variants.{Free, Live, Cancelled, Retired}
 use Rattle.state.specs.declared.Timer.{Timer}
 use Rattle.state.specs.declared.Set.{Set}
-use Rattle.state.specs.State.{timerAt, handleWord}
+use Rattle.state.specs.State.{timerAt}
+use Rattle.state.specs.Handles.{handleWord}
 use Rattle.state.specs.Sound.{Sound}
 use Rattle.moves.specs.Rules.{Ring, rungLife, reports, rungTimer, rungOf, advancedOf}
 use Rattle.laws.specs.Advanced.{Handled, Stays, Rest}

@@ -11,7 +11,8 @@ use Rattle.refusals.specs.Answer.{Answer, accepted, refused, Outcome, kept}
 use Rattle.heap.specs.Capacity.{cap}
 use Rattle.state.specs.declared.Set.{Set}
 use Rattle.state.specs.declared.Handle.{Handle}
-use Rattle.state.specs.State.{timerAt, freshOf, handleWord}
+use Rattle.state.specs.State.{timerAt, freshOf}
+use Rattle.state.specs.Handles.{handleWord}
 use Rattle.state.proofs.Handles.{place-ranged, word-apart}
 use Rattle.timers.specs.declared.Call.{Call}
 use Rattle.timers.specs.declared.Call.the-variants as C

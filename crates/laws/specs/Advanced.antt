@@ -11,7 +11,8 @@ use Rattle.state.specs.declared.Life.the-variants.{Live}
 use Rattle.state.specs.declared.First.the-variants as First
 use Rattle.state.specs.declared.Timer.{Timer}
 use Rattle.state.specs.declared.Set.{Set}
-use Rattle.state.specs.State.{timerAt, handleWord}
+use Rattle.state.specs.State.{timerAt}
+use Rattle.state.specs.Handles.{handleWord}
 use Rattle.state.specs.Sound.{Unused, Sound}
 use Rattle.moves.specs.Rules.{Ring}
 

@@ -5,3 +5,4 @@ pub mod ByHandle
 pub mod Past
 pub mod InUse
 pub mod Reports
+pub mod EntryOf

@@ -8,7 +8,7 @@ use lib.ListN.{getD}
 use Rattle.refusals.specs.Answer.{accepted}
 use Rattle.state.specs.declared.Set.{Set}
 use Rattle.state.specs.declared.Handle.{Handle}
-use Rattle.state.specs.State.{handleWord}
+use Rattle.state.specs.Handles.{handleWord}
 use Rattle.timers.specs.declared.Call.{Call}
 use Rattle.timers.specs.Calls.{counts, Timing, liveAt, step}
 

@@ -14,7 +14,8 @@ use Rattle.heap.specs.Calls.{popSound}
 use Rattle.heap.proofs.SoundKept.{pop-sound}
 use Rattle.state.specs.declared.Timer.{Timer}
 use Rattle.state.specs.declared.Set.{Set}
-use Rattle.state.specs.State.{noTimer, timerAt, handleWord}
+use Rattle.state.specs.State.{noTimer, timerAt}
+use Rattle.state.specs.Handles.{handleWord}
 use Rattle.moves.specs.Rules.{withTimer, withHeap, Ring, dueBy, reports, rungTimer, rungOf, ringFrom, advancedOf}
 
 -- the head of the heap, its place, and the timer there

@@ -29,7 +29,8 @@ use Rattle.state.specs.declared.Timer.{Timer}
 use Rattle.state.specs.declared.Set.{Set}
 use Rattle.moves.specs.declared.list.Spot.{Spot}
 use Rattle.moves.specs.declared.list.Spot.the-variants as S
-use Rattle.state.specs.State.{timerAt, isWaiting, headAfter, handleWord}
+use Rattle.state.specs.State.{timerAt, isWaiting, headAfter}
+use Rattle.state.specs.Handles.{handleWord}
 
 -- a set with another timer at a place, heap or list head
 abbrev pub withTimer : Set → ℕ → Timer → Set

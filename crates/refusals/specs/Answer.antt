@@ -2,6 +2,7 @@
 -- of a call that can be refused, or whose answer is an enum, speaks through these two types: the definition `said` of its crate reads
 -- the code's own answers as such.
 -- Assumes nothing.
+use mathlib.Core.Bool.{Bool, true, false}
 use Prim.Native.Nat.{ℕ}
 use Rattle.refusals.specs.declared.Refusal.{Refusal}
 use Rattle.refusals.specs.Numbers.{numberOf}
@@ -13,6 +14,16 @@ pub data Answer (A : Type 0) : Type 0 where
 -- a refusal by its name
 abbrev pub refuse : {A : Type 0} → Refusal → Answer A
 refuse r = refused (numberOf r)
+
+-- the value of an accepted answer, and a stand-in for one that was refused
+abbrev pub valueOr : {A : Type 0} → A → Answer A → A
+valueOr a (refused n) = a
+valueOr a (accepted v) = v
+
+-- whether a call was accepted
+abbrev pub isAccepted : {A : Type 0} → Answer A → Bool
+isAccepted (refused n) = false
+isAccepted (accepted v) = true
 
 -- the state that a call hands back, and what it answers
 pub record Outcome (S A : Type 0) : Type 0 where

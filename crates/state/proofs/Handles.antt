@@ -5,7 +5,7 @@ use Prim.Native.Nat.{ℕ, _+_, _*_, _<_, _^_}
 use native.Mathlib.Omega.{arith}
 use Rattle.heap.specs.Capacity.{cap}
 use Rattle.state.specs.declared.Handle.{Handle}
-use Rattle.state.specs.State.{handleWord}
+use Rattle.state.specs.Handles.{handleWord}
 
 -- a place of the set is in its range
 pub place-ranged : (p : ℕ) → p < cap → p < 2 ^ 16

@@ -7,7 +7,8 @@ use Rattle.theory.proofs.Promise.{by-rule, plain-apart}
 use Rattle.state.specs.declared.First.{First}
 use Rattle.state.specs.declared.Set.{Set}
 use Rattle.state.specs.declared.fault.Fault.{Fault}
-use Rattle.state.specs.State.{isWaiting, headAfter, freshOf, handleWord}
+use Rattle.state.specs.State.{isWaiting, headAfter, freshOf}
+use Rattle.state.specs.Handles.{handleWord}
 use Rattle.state.specs.Faults.{faultOf, soundOf}
 use Rattle.state.specs.Promises.{Fresh, Faults, IsSound, Words, Waits, Follows}
 

@@ -1,3 +1,4 @@
+pub mod Handles
 pub mod State
 pub mod Faults
 pub mod Sound

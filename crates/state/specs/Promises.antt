@@ -8,7 +8,8 @@ use Rattle.state.specs.declared.First.{First}
 use Rattle.state.specs.declared.Set.{Set}
 use Rattle.state.specs.declared.Handle.{Handle}
 use Rattle.state.specs.declared.fault.Fault.{Fault}
-use Rattle.state.specs.State.{isWaiting, headAfter, freshOf, handleWord}
+use Rattle.state.specs.State.{isWaiting, headAfter, freshOf}
+use Rattle.state.specs.Handles.{handleWord}
 use Rattle.state.specs.Faults.{faultOf, soundOf}
 
 abbrev pub Fresh : Set → Type 0

@@ -1,9 +1,9 @@
--- How a set of timers is read: its places, its links, the word of a handle.
+-- How a set of timers is read: its places and its links.
 -- Assumes nothing.
 use mathlib.Core.Bool.{Bool, true, false}
 use mathlib.Core.Option.{Option, none, some}
 use mathlib.Core.List.{List}
-use Prim.Native.Nat.{ℕ, _+_, _*_, _^_}
+use Prim.Native.Nat.{ℕ}
 use lib.ListN.{getD, replicate}
 use Rattle.heap.specs.Capacity.{cap}
 use Rattle.heap.specs.declared.Place.{Place}
@@ -19,7 +19,6 @@ use Rattle.state.specs.declared.First.{First}
 use Rattle.state.specs.declared.First.the-variants as First
 use Rattle.state.specs.declared.Timer.{Timer}
 use Rattle.state.specs.declared.Set.{Set}
-use Rattle.state.specs.declared.Handle.{Handle}
 
 -- a free place that nobody has used
 abbrev pub noTimer : Timer
@@ -54,7 +53,3 @@ headAfter (Before q) = First.At q
 -- the fresh set: open, every place free with use number 0, the list empty, the heap fresh
 abbrev pub freshOf : Set
 freshOf = record { heap = Heap.freshOf; timers = replicate cap noTimer; first = First.Nothing; closed = false }
-
--- a handle as one word: use number 32 bits, 16 zero bits, place 16, most significant first
-abbrev pub handleWord : Handle → ℕ
-handleWord h = h .uses * 2 ^ 32 + h .place .0

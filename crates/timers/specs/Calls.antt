@@ -23,6 +23,7 @@ use Rattle.state.specs.declared.Set.{Set}
 use Rattle.state.specs.declared.Handle.{Handle}
 use Rattle.state.specs.State.{timerAt}
 use Rattle.state.specs.Faults.{soundOf}
+pub use Rattle.timers.specs.Values.{Value, nothing, handle, counts, wake, polled, time}
 use Rattle.timers.specs.declared.Call.{Call}
 use Rattle.timers.specs.declared.Call.the-variants as C
 use Rattle.timers.specs.declared.Guard.{Guard}
@@ -31,21 +32,6 @@ use Rattle.timers.specs.declared.Reply.{Reply}
 use Rattle.timers.specs.declared.Reply.the-variants as R
 use Rattle.timers.specs.declared.After.{After}
 use Rattle.moves.specs.Rules.{touchedOf, lowestFree, drainedOf, Ring, advancedOf, closedOf}
-
--- the values that the rules name
-pub data Value : Type 0 where
-  -- none
-  nothing : Value
-  -- an add's handle
-  handle : Handle → Value
-  -- an advance's or a turn's counts, reported and popped
-  counts : ℕ → ℕ → Value
-  -- a next wake
-  wake : Option ℕ → Value
-  -- a poll: 0 pending, 1 fired, 2 gone
-  polled : ℕ → Value
-  -- a tick's old deadline
-  time : ℕ → Value
 
 -- a set with the list that was lent
 pub record Lent : Type 0 where
