@@ -43,7 +43,7 @@ empty-first s o e = go (s .first) refl
         absurd (count-zero (waitsAt s) cap e (p .0) (waits-below s (p .0) w) w)
 
 -- no timer waits where the list is empty
-empty-none : (s : Set) → Open s → s .first ≡ First.Nothing → count (waitsAt s) cap ≡ 0
+pub empty-none : (s : Set) → Open s → s .first ≡ First.Nothing → count (waitsAt s) cap ≡ 0
 empty-none s o e = ok-none (waitsAt s) (afterAt s) cap (ap (λ (f : First). chainOkb (waitsAt s) (afterAt s) cap (headOf f)) (sym e) ∙ o .listed)
 
 -- as many turns as timers wait are enough

@@ -43,3 +43,6 @@ pub mod ByHandleCalls
 pub mod ByHandleSteps
 pub mod Ever
 pub mod Reports
+pub mod EntryOfTouch
+pub mod EntryOfSettle
+pub mod EntryOfDrain

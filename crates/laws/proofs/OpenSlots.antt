@@ -54,7 +54,7 @@ some-same : {x y : Entry} → some x ≡ some y → x ≡ y
 some-same e = cc
 
 -- in one slot stands the entry of one place
-stands-one : (h : Heap) (j k x p : ℕ) → Stands h j x → Stands h k p → j ≡ k → x ≡ p
+pub stands-one : (h : Heap) (j k x p : ℕ) → Stands h j x → Stands h k p → j ≡ k → x ≡ p
 stands-one h j k x p a b e =
     let q : a .it ≡ b .it = cc (a .found, b .found, ap (lookup h) e) in
     sym (a .mine) ∙ ap (λ (y : Entry). y .place .0) q ∙ b .mine
@@ -70,6 +70,12 @@ slots-same h held held' same s = record {
     young = s .fits k e l .young;
   };
 }
+
+-- with room, a push answers the free head
+pub push-gives : (h : Heap) (at g p : ℕ) → h .len < cap
+    → pushSound h at g (record { 0 = p }) ≡ pushGives (h .free) (pushedOf h at g (record { 0 = p }))
+unfolding pushSound
+push-gives h at g p room = rw (lt-ltb (h .len) cap room)
 
 -- the slot that the place p names may change, and no other place's
 module _ (h : Heap) (held held' : ℕ → Held) (p : ℕ) (s : Slots h held) (there : (x : ℕ) → (x ≡ p → ⊥) → held' x ≡ held x) where
@@ -126,11 +132,6 @@ module _ (h : Heap) (held held' : ℕ → Held) (p : ℕ) (s : Slots h held) (th
     abbrev new : Heap
     new = pushedOf h at g (record { 0 = p }) .heap
 
-    -- with room, the push answers the free head
-    push-gives : pushSound h at g (record { 0 = p }) ≡ pushGives (h .free) (pushedOf h at g (record { 0 = p }))
-    unfolding pushSound
-    push-gives = rw (lt-ltb (h .len) cap room)
-
     pushed-own : held' p ≡ Held.At (h .free) → (x : ℕ) (t : Slot) → x < cap → held' x ≡ Held.At t → Stands new (t .0) x
     pushed-own on x t c a =
         by-ref (ref-eq x p)
@@ -166,9 +167,9 @@ module _ (h : Heap) (held held' : ℕ → Held) (p : ℕ) (s : Slots h held) (th
     -- the place, which names no slot, gets an entry, and names the slot that the push answers
     pub slots-pushed : held' p ≡ heldBy (pushSound h at g (record { 0 = p }) .answer) → Slots (pushSound h at g (record { 0 = p }) .state) held'
     slots-pushed e =
-        let on : held' p ≡ Held.At (h .free) = e ∙ ap (λ (o : Outcome Heap (Slot × ℕ)). heldBy (o .answer)) push-gives in
+        let on : held' p ≡ Held.At (h .free) = e ∙ ap (λ (o : Outcome Heap (Slot × ℕ)). heldBy (o .answer)) (push-gives h at g p room) in
         record {
           sound = push-sound h (s .sound) at g (record { 0 = p });
-          own = rw push-gives (pushed-own on);
-          fits = rw push-gives (pushed-fits on);
+          own = rw (push-gives h at g p room) (pushed-own on);
+          fits = rw (push-gives h at g p room) (pushed-fits on);
         }

@@ -58,10 +58,12 @@ unused-waits : {A : Type 0} {t : Timer} → Unused t → isWaiting (t .waiting) 
 unused-waits u e = true-false e (ap isWaiting (u .still))
 
 module _ (s : Set) (o : Open s) (words : Words s) (p : ℕ) (at : s .first ≡ First.At (record { 0 = p })) where
-  first-in : p < cap
+  -- the first timer's place is in range
+  pub first-in : p < cap
   first-in = waits-below s p (first-waits s (record { 0 = p }) (o .listed) at)
 
-  first-waiting : isWaiting (timerAt s p .waiting) ≡ true
+  -- it waits
+  pub first-waiting : isWaiting (timerAt s p .waiting) ≡ true
   first-waiting = sym (waits-in s p first-in) ∙ first-waits s (record { 0 = p }) (o .listed) at
 
   -- the set after the turn: another heap, another timer at p, and the next timer at the head of the list
@@ -79,17 +81,22 @@ module _ (s : Set) (o : Open s) (words : Words s) (p : ℕ) (at : s .first ≡ F
   }
 
   -- what the places name once the timer has dropped its entry
-  abbrev bare : ℕ → Held
+  abbrev pub bare : ℕ → Held
   bare = upd ℕ-discrete (heldAt s) p Held.Nothing
 
   -- the heap then
-  abbrev less : Heap
+  abbrev pub less : Heap
   less = droppedOf (s .heap) (timerAt s p .held)
 
-  less-slots : Slots less bare
+  -- the two name each other
+  pub less-slots : Slots less bare
   less-slots =
       slots-dropped (s .heap) (heldAt s) bare p (o .slots) (upd-other ℕ-discrete (heldAt s) p Held.Nothing) first-in
       (upd-same ℕ-discrete (heldAt s) p Held.Nothing)
+
+  -- there is room for an entry
+  pub less-room : less .len < cap
+  less-room = room less bare less-slots p first-in (upd-same ℕ-discrete (heldAt s) p Held.Nothing)
 
   -- the new entry of a live timer
   module _ (w d : ℕ) where
@@ -109,7 +116,7 @@ module _ (s : Set) (o : Open s) (words : Words s) (p : ℕ) (at : s .first ≡ F
         let young : generationOf w < 2 ^ 30 = omega arith in
         slots-pushed less bare (heldAt (after more live)) p less-slots
         (λ x n. held-there s more p live (headAfter (timerAt s p .waiting)) x n ∙ sym (upd-other ℕ-discrete (heldAt s) p Held.Nothing x n))
-        d (generationOf w) first-in (room less bare less-slots p first-in (upd-same ℕ-discrete (heldAt s) p Held.Nothing)) young
+        d (generationOf w) first-in less-room young
         (upd-same ℕ-discrete (heldAt s) p Held.Nothing)
         (ap (λ (u : Timer). u .held) (timer-here s more p live (headAfter (timerAt s p .waiting)) (o .timers-long) first-in))
 
