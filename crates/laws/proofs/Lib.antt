@@ -43,3 +43,5 @@ pub mod ByHandleCalls
 pub mod ByHandleSteps
 pub mod Ever
 pub mod Reports
+pub mod EntryOfPop
+pub mod Written
