@@ -46,3 +46,5 @@ pub mod Reports
 pub mod EntryOfTouch
 pub mod EntryOfSettle
 pub mod EntryOfDrain
+pub mod EntryOfPop
+pub mod Written
