@@ -1,1 +1,6 @@
 pub mod Bench
+pub mod Tracks
+pub mod TracksTouch
+pub mod Told
+pub mod TracksPop
+pub mod TracksDrain
