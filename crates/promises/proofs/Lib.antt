@@ -4,3 +4,5 @@ pub mod TracksTouch
 pub mod Told
 pub mod TracksPop
 pub mod TracksDrain
+pub mod TracksHead
+pub mod TracksRing
