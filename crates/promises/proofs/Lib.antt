@@ -6,3 +6,4 @@ pub mod TracksPop
 pub mod TracksDrain
 pub mod TracksHead
 pub mod TracksRing
+pub mod TracksSteps
