@@ -4,12 +4,14 @@
 use mathlib.Core.Path.{_≡_, refl, sym, _∙_, ap, subst}
 use mathlib.Core.Bool.{Bool, true, false, _&&_}
 use mathlib.Core.Option.{Option, none, some}
+use mathlib.Core.List.{List}
 use Prim.Native.Nat.{ℕ, _≤_, _<_}
 use native.Mathlib.Omega.{arith}
 use lib.Dec.{ltb, leb}
 use lib.Seq.{getD-set-same, getD-set-other}
 use borrow.Author.Tests.{lt-ltb, leb-true, leb-false}
 use Rattle.theory.proofs.Tests.{none-some, and-right}
+use Rattle.theory.proofs.Stores.{sees}
 use Rattle.heap.specs.Capacity.{cap}
 use Rattle.heap.specs.declared.Slot.{Slot}
 use Rattle.heap.specs.declared.Entry.{Entry}
@@ -26,11 +28,12 @@ use Rattle.state.specs.declared.Held.{Held}
 use Rattle.state.specs.declared.Held.the-variants as Held
 use Rattle.state.specs.declared.Timer.{Timer}
 use Rattle.state.specs.declared.Set.{Set}
-use Rattle.state.specs.State.{noTimer, timerAt}
+use Rattle.state.specs.State.{noTimer, timerAt, isWaiting}
 use Rattle.state.specs.Sound.{Sound}
-use Rattle.moves.specs.Rules.{Ring, dueBy, rungTimer, rungOf}
-use Rattle.laws.specs.EntryOf.{heldEntry, entryOf}
+use Rattle.moves.specs.Rules.{Ring, dueBy, rungTimer, rungOf, advancedOf}
+use Rattle.laws.specs.EntryOf.{heldEntry, entryOf, waiting}
 use Rattle.laws.proofs.Ties.{sound-tied}
+use Rattle.laws.proofs.AdvancedSound.{ring-by, fromStart}
 
 -- a place that has an entry names a slot, in which the entry stands
 held-slot : (h : Heap) (x : Held) (e : Entry) → heldEntry h x ≡ some e → (q : Slot) × (lookup h (q .0) ≡ some e)
@@ -114,3 +117,10 @@ module _ (r : Ring) (ok : Sound (r .set)) (b : 0 < r .set .heap .len) where
   pub rung-entry-head : entryOf (rungOf r .set) (entryAt (r .set .heap) 0 .place .0) ≡ none
   unfolding rungOf
   rung-entry-head = ap (λ (t : Timer). heldEntry (popSound (r .set .heap) .state) (t .held)) rung-timer-head
+
+-- an advance lets every timer wait that waited, and no other
+pub advanced-waiting : (s : Set) (N : ℕ) (l : List ℕ) (x : ℕ) → waiting (advancedOf s N l .set) x ≡ waiting s x
+unfolding advancedOf rungOf
+advanced-waiting s N l x =
+    ring-by (λ r. waiting (r .set) x ≡ waiting s x) N
+    (λ r _ h. sym (sees (λ (t : Timer). isWaiting (t .waiting)) noTimer (r .set .timers) (entryAt (r .set .heap) 0 .place .0) _ refl x) ∙ h) (s .heap .len) (fromStart s l) refl

@@ -7,3 +7,5 @@ pub mod TracksDrain
 pub mod TracksHead
 pub mod TracksRing
 pub mod TracksSteps
+pub mod Waking
+pub mod Engine

@@ -1,0 +1,233 @@
+-- The project's engine meets demand 3, and its step is what `perform` answers.
+-- Assumes nothing.
+use mathlib.Core.Path.{_≡_, refl, sym, ap, subst, _∙_}
+use mathlib.Core.Bool.{Bool, true, false, not, cond, _&&_}
+use mathlib.Core.Option.{Option, none, some}
+use mathlib.Core.List.{List, [], _∷_}
+use Prim.Native.Nat.{ℕ, _≤_, _<_, _^_}
+use native.Mathlib.Omega.{arith}
+use lib.Dec.{leb}
+use lib.ListN.{length}
+use borrow.Author.Tests.{le-leb, le-ltb}
+use Rattle.theory.specs.Tests.{bit}
+use Rattle.theory.specs.Weights.{Rising}
+use Rattle.theory.proofs.Tests.{true-false, by-ref, ref-lt}
+use Rattle.refusals.specs.Answer.{Answer, accepted, refused, isAccepted, Outcome}
+use Rattle.heap.specs.Capacity.{cap}
+use Rattle.heap.specs.Calls.{peekSound}
+use Rattle.state.specs.declared.Set.{Set}
+use Rattle.state.specs.declared.Handle.{Handle}
+use Rattle.state.specs.State.{freshOf, isWaiting, timerAt}
+use Rattle.state.specs.Faults.{soundOf}
+use Rattle.state.proofs.Test.{sound-tells}
+use Rattle.state.proofs.FreshSound.{fresh-at}
+use Rattle.moves.specs.Rules.{drainedOf, Ring, advancedOf}
+use Rattle.timers.specs.declared.Call.{Call}
+use Rattle.timers.specs.declared.Call.the-variants as C
+use Rattle.timers.specs.declared.After.{After}
+use Rattle.timers.specs.Values.{Value, wake}
+use Rattle.timers.specs.Calls.{liveAt, Lent, lent, rang, guarded, advanceOf, turnOf, nextWakeOf, wakeBy, step, toldWith}
+use Rattle.timers.specs.Promises.{Performs}
+use Rattle.laws.specs.Table.{unsound, rowb, heldIn}
+use Rattle.laws.specs.Words.{Fit}
+use Rattle.laws.specs.EntryOf.{waiting}
+use Rattle.laws.proofs.Naming.{names-dead, live-none}
+use Rattle.laws.proofs.CallCases.{LetIn, advance-by, turn-by}
+use Rattle.laws.proofs.DrainSound.{drained-sound, drained-first}
+use Rattle.laws.proofs.AdvancedSound.{fromStart, advanced-keeps, advanced-sound}
+use Rattle.laws.proofs.StepSound.{after-fit, fresh-fit}
+use Rattle.laws.proofs.EntryOfPop.{advanced-waiting}
+use Rattle.laws.proofs.Table.{refused-row}
+use Rattle.promises.specs.Turns.{Line, Ledger, blank, owed, seen, note, Exact, Least, Run, next, from, run, Bounded, Accepted, Moment, Meets}
+use Rattle.promises.specs.Engine.{handed, ours}
+use Rattle.promises.proofs.Told.{told, swept}
+use Rattle.promises.proofs.Tracks.{Tracks, stands-under}
+use Rattle.promises.proofs.TracksDrain.{none-waiting, drain-tracks}
+use Rattle.promises.proofs.TracksHead.{ready, Safe}
+use Rattle.promises.proofs.TracksRing.{Rang, called}
+use Rattle.promises.proofs.TracksSteps.{Low, Follows, advanced-rang, rangOut, now, step-follows}
+use Rattle.promises.proofs.Waking.{wake-least}
+
+-- ANY CALLS
+
+-- the set of a moment fits, and is as its ledger says
+pub record Good (B : Type 0) (r : Run ours) : Type 0 where
+  pub fit : Fit (r .state)
+  pub follows : Follows B (r .state) (r .ledger)
+
+follows-under : (B D : Type 0) → (D → B) → (s : Set) (L : Ledger) → Follows B s L → Follows D s L
+follows-under B D g s L f = record { closed-too = f .closed-too; tracks = λ c h. stands-under B D g (liveAt s h) _ _ (L .line h) (f .tracks c h) }
+
+next-good : (B : Type 0) (r : Run ours) → Good B r → (c : Call) (l : List ℕ) → Good (B × Low (r .ledger)) (next ours r c l)
+unfolding next
+next-good B r g c l = record {
+  fit = after-fit ((c, l) ∷ []) (r .state) (g .fit);
+  follows =
+      step-follows (B × Low (r .ledger)) (r .state) (r .ledger) (g .fit) (λ b. b .1)
+      (follows-under B (B × Low (r .ledger)) (λ b. b .0) (r .state) (r .ledger) (g .follows)) c l;
+}
+
+from-good : (cs : List (Call × List ℕ)) (B : Type 0) (r : Run ours) → Good B r → Good (B × Bounded ours r cs) (from ours r cs)
+unfolding from Bounded
+from-good [] B r g = record { fit = g .fit; follows = follows-under B (B × Low (r .ledger)) (λ b. b .0) (r .state) (r .ledger) (g .follows) }
+from-good (c ∷ cs) B r g =
+    let q = next ours r (c .0) (c .1) in
+    let k = from-good cs (B × Low (r .ledger)) q (next-good B r g (c .0) (c .1)) in
+    record {
+      fit = k .fit;
+      follows =
+          follows-under ((B × Low (r .ledger)) × Bounded ours q cs) (B × (Low (r .ledger) × Bounded ours q cs)) (λ b. ((b .0, b .1 .0), b .1 .1))
+          (from ours q cs .state) (from ours q cs .ledger) (k .follows);
+    }
+
+bounded-low : (cs : List (Call × List ℕ)) (r : Run ours) → Bounded ours r cs → Low (from ours r cs .ledger)
+unfolding from Bounded
+bounded-low [] r b = b
+bounded-low (c ∷ cs) r b = bounded-low cs (next ours r (c .0) (c .1)) (b .1)
+
+-- in a fresh set every handle is dead
+fresh-dead : (h : Handle) → liveAt freshOf h ≡ none
+unfolding liveAt
+fresh-dead h = by-ref (ref-lt (h .place .0) cap)
+    (λ b. live-none freshOf h (names-dead (timerAt freshOf (h .place .0)) (h .uses) (rw (fresh-at (h .place .0) b) refl)))
+    (λ n. rw (le-ltb (h .place .0) cap (omega arith)) refl)
+
+begin-good : Good (Unit {0}) (run ours [])
+unfolding from
+begin-good = record { fit = fresh-fit; follows = record { closed-too = refl; tracks = λ _ h. rw (fresh-dead h) refl } }
+
+-- after any calls from fresh
+pub run-good : (cs : List (Call × List ℕ)) → Good (Unit {0} × Bounded ours (run ours []) cs) (run ours cs)
+unfolding from
+run-good cs = from-good cs (Unit {0}) (run ours []) begin-good
+
+-- ONE MOMENT
+
+and-true : (a : Bool) → a && true ≡ a
+and-true true = refl
+and-true false = refl
+
+-- what an advance reports, told to a ledger M that has the deadlines of L
+exact-rang : (B : Type 0) (L M : Ledger) (passes : Line → Bool) (N : ℕ) (s : Set) (l : List ℕ) (q : Ring) → (k : Rang B L N 0 (fromStart s l) q) → Safe B s
+    → ((h : Handle) → called L N h ≡ passes (M .line h) && leb (M .line h .due) N) → Rising (λ h. M .line h .due) 0 (k .who)
+    → Exact M passes N (seen (handed (rang q)))
+exact-rang B L M passes N s l q k safe same rising =
+    rw (k .written) (record { each-once = λ h. k .exact safe h ∙ ap bit (same h); in-order = rising; counted = omega (arith, k .counted) })
+
+module _ (B : Type 0) (r : Run ours) (g : Good B r) (low : B → Low (r .ledger)) where
+  abbrev s : Set
+  s = r .state
+
+  abbrev L : Ledger
+  L = r .ledger
+
+  swept-low : B → Low (swept L)
+  swept-low _ h = omega arith
+
+  drained-rang : LetIn s → (N : ℕ) (l : List ℕ) → cap ≤ length l → Rang B (swept L) N 0 (fromStart (drainedOf s) l) (advancedOf (drainedOf s) N l)
+  drained-rang a N l room =
+      advanced-rang B (drainedOf s) (swept L) N l swept-low
+      (drain-tracks s (g .fit .sound) (a .still-open) (g .fit .words) B L (now B s L (g .fit) low (g .follows) a))
+      (drained-sound s (g .fit .sound) (a .still-open) (g .fit .words)) room
+
+  idle-then : LetIn s → (x : ℕ) → x < cap → waiting (drainedOf s) x ≡ false
+  idle-then a = none-waiting s (g .fit .sound) (a .still-open) (g .fit .words)
+
+  -- an accepted turn
+  turn-exact : (N : ℕ) (l : List ℕ) → Accepted ours r (C.Turn N) l → Exact L owed N (seen (handed (step s (C.Turn N) l)))
+  unfolding step
+  turn-exact N l =
+      turn-by (λ o. isAccepted (o .answer) ≡ true → Exact L owed N (seen (handed o))) s l (λ n y. true-false y refl) N
+      (λ a room _.
+      let k = drained-rang a N l room in
+      let safe : Safe B (drainedOf s) = λ x b w. true-false w (idle-then a x b) in
+      exact-rang B (swept L) L owed N (drainedOf s) l (advancedOf (drainedOf s) N l) k safe
+      (λ h. ap (λ (c : Bool). c && leb (L .line h .due) N) (and-true (owed (L .line h)))) (k .sorted safe))
+
+  -- an accepted advance
+  advance-exact : B → (N : ℕ) (l : List ℕ) → Accepted ours r (C.Advance N) l → Exact L ready N (seen (handed (step s (C.Advance N) l)))
+  unfolding step
+  advance-exact b N l =
+      advance-by (λ o. isAccepted (o .answer) ≡ true → Exact L ready N (seen (handed o))) s l (λ n y. true-false y refl) N
+      (λ a room _.
+      let k = advanced-rang B s L N l low (now B s L (g .fit) low (g .follows) a) (g .fit .sound) room in
+      exact-rang B L L ready N s l (advancedOf s N l) k (λ _ _ _. b) (λ h. refl) (k .sorted (λ _ _ _. b)))
+
+  -- both are accepted where the list has room
+  takes-both : L .closed ≡ false → (N : ℕ) (l : List ℕ) → cap ≤ length l → Accepted ours r (C.Turn N) l × Accepted ours r (C.Advance N) l
+  unfolding step turnOf advanceOf guarded
+  takes-both c N l room =
+      let o = sound-tells s (g .fit .sound) in
+      let d : s .closed ≡ false = g .follows .closed-too ∙ c in
+      let m = le-leb cap (length l) room in
+      (rw (o, d, m) refl, rw (o, d, m) refl)
+
+  -- nobody waits after a turn
+  idle-after : LetIn s → (N : ℕ) (l : List ℕ) (x : ℕ) → x < cap → waiting (advancedOf (drainedOf s) N l .set) x ≡ false
+  idle-after a N l x b = advanced-waiting (drainedOf s) N l x ∙ idle-then a x b
+
+  -- the next wake after an accepted turn
+  turn-wake : B → (N : ℕ) (l : List ℕ) → Accepted ours r (C.Turn N) l
+      → Least (note (C.Turn N) (seen (handed (step s (C.Turn N) l))) L) (wakeBy (peekSound (step s (C.Turn N) l .state .set .heap)))
+  unfolding step note
+  turn-wake b N l =
+      turn-by (λ o. isAccepted (o .answer) ≡ true → Least (note (C.Turn N) (seen (handed o)) L) (wakeBy (peekSound (o .state .set .heap)))) s l
+      (λ n y. true-false y refl) N
+      (λ a room _.
+      let k = drained-rang a N l room in
+      let q = advancedOf (drainedOf s) N l in
+      wake-least B (q .set) (told (rangOut q) (swept L))
+      (subst (λ (R : List Handle). Tracks B (q .set) (told R (swept L))) (sym (k .written)) (k .tracks))
+      (advanced-sound (drainedOf s) N l (drained-sound s (g .fit .sound) (a .still-open) (g .fit .words)))
+      (idle-after a N l) (λ h. refl) b)
+
+-- a next wake of a set that fits is answered
+pub wake-answered : (s : Set) → Fit s → (l : List ℕ) → step s C.NextWake l .answer ≡ accepted (wake (wakeBy (peekSound (s .heap))))
+unfolding step nextWakeOf guarded
+wake-answered s f l = rw (sound-tells s (f .sound)) refl
+
+-- no call on a set that fits is refused with 1
+pub never-one : (s : Set) → Fit s → (c : Call) (l : List ℕ) → step s c l .answer ≡ refused 1 → ⊥
+unfolding heldIn
+never-one s f c l e = true-false (first-row c (refused-row s c l 1 e .holds)) (ap not (sound-tells s (f .sound)))
+  where
+    first-row : (c : Call) → rowb s c l 1 ≡ true → unsound s ≡ true
+    first-row (C.Add d) q = q
+    first-row (C.Reset h d) q = q
+    first-row (C.Cancel h) q = q
+    first-row C.Drain q = q
+    first-row (C.Advance N) q = q
+    first-row (C.Turn N) q = q
+    first-row C.NextWake q = q
+    first-row (C.Poll h) q = q
+    first-row C.Close q = q
+    first-row (C.Tick h p period N) q = q
+    first-row (C.Restart h period N) q = q
+
+-- THE CLAIM
+
+moment : (cs : List (Call × List ℕ)) → run ours cs .ledger .closed ≡ false → Moment ours (run ours cs) (Bounded ours (run ours []) cs)
+unfolding from next
+moment cs c =
+    let r = run ours cs in
+    let B = Unit {0} × Bounded ours (run ours []) cs in
+    let g = run-good cs in
+    let low : B → Low (r .ledger) = λ b. bounded-low cs (run ours []) (b .1) in
+    record {
+      turns = turn-exact B r g low;
+      takes = takes-both B r g low c;
+      wakes = λ N l m b y. (wakeBy (peekSound (step (r .state) (C.Turn N) l .state .set .heap)), wake-answered _ (next-good B r g (C.Turn N) l .fit) m, turn-wake B r g low (tt, b) N l y);
+      advances = λ N l b y. advance-exact B r g low (tt, b) N l y;
+    }
+
+-- this project's engine meets demand 3
+pub meets : Meets ours
+meets = record {
+  before-close = moment;
+  wakes = λ cs l. (wakeBy (peekSound (run ours cs .state .heap)), wake-answered (run ours cs .state) (run-good cs .fit) l);
+  sound = λ cs c l. never-one (run ours cs .state) (run-good cs .fit) c l;
+}
+
+-- and its step is what the code answers: of a set s, a call c and a lent list l, `perform` answers r and leaves the list m
+pub performs : (s : Set) (c : Call) (l : List ℕ) (r : After) (m : List ℕ) → Performs s c l r m → handed (toldWith r m) ≡ ours .step s c l
+performs s c l r m p = ap handed p
