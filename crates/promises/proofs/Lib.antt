@@ -8,4 +8,8 @@ pub mod TracksHead
 pub mod TracksRing
 pub mod TracksSteps
 pub mod Waking
+pub mod Runs
+pub mod Moments
 pub mod Engine
+pub mod Owing
+pub mod Timeouts

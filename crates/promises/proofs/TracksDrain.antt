@@ -1,13 +1,11 @@
 -- After a drain the set is as the ledger then says: nobody waits, and each live timer that waited has an entry of its own.
 -- Assumes nothing.
-use mathlib.Core.Path.{_≡_, refl, sym, ap, subst, _∙_}
-use mathlib.Core.Bool.{Bool, true, false}
+use mathlib.Core.Path.{_≡_, refl, ap}
+use mathlib.Core.Bool.{false}
 use mathlib.Core.Option.{Option, none, some}
 use Prim.Native.Nat.{ℕ, _<_}
 use Rattle.heap.specs.Capacity.{cap}
-use Rattle.state.specs.declared.Waiting.{Waiting}
 use Rattle.state.specs.declared.Set.{Set}
-use Rattle.state.specs.declared.Handle.{Handle}
 use Rattle.state.specs.State.{isWaiting}
 use Rattle.state.specs.Sound.{Sound}
 use Rattle.moves.specs.Rules.{drainedOf}

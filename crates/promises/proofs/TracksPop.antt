@@ -24,15 +24,14 @@ use Rattle.state.specs.declared.Life.{Life}
 use Rattle.moves.specs.Rules.{Ring, rungWord, rungLife, reports, rungTimer, rungOf}
 use Rattle.timers.specs.Calls.{Timing, timingOf, liveAt}
 use Rattle.laws.specs.EntryOf.{entryOf, waiting}
-use Rattle.laws.specs.ByHandle.{Fires}
 use Rattle.laws.proofs.Naming.{names, names-same, live-by, live-in-range, live-told}
 use Rattle.laws.proofs.Still.{rung-stays}
 use Rattle.laws.proofs.ByHandle.{one-handle}
 use Rattle.laws.proofs.EntryOfPop.{head-entry, rung-timer-other, rung-timer-head, rung-entry-other, rung-entry-head}
 use Rattle.laws.proofs.Written.{headReports}
-use Rattle.promises.specs.Turns.{Line, Ledger, rung}
+use Rattle.promises.specs.Turns.{Line, Ledger}
 use Rattle.promises.proofs.Told.{told, told-none, told-other, told-same}
-use Rattle.promises.proofs.Tracks.{Living, Stands, Tracks, stands-same, living-fired, living-stale, fired-unreported}
+use Rattle.promises.proofs.Tracks.{Living, Stands, Tracks, stands-same, living-fired, living-stale}
 
 -- the handle of the head's timer
 abbrev pub headHandle : Ring → Handle

@@ -1,7 +1,6 @@
 -- A whole advance: who is reported, in which order, what the list then has, and that the set is as the ledger then says.
 -- Assumes nothing.
 use mathlib.Core.Path.{_≡_, refl, sym, ap, subst, _∙_}
-use mathlib.Core.Logic.{_≢_}
 use mathlib.Core.Bool.{Bool, true, false, not, cond, _&&_, _||_}
 use mathlib.Core.Option.{some}
 use mathlib.Core.List.{List, [], _∷_, _++_, map, append-nil, append-assoc}
@@ -30,11 +29,11 @@ use Rattle.laws.specs.EntryOf.{entryOf, waiting}
 use Rattle.laws.proofs.RungSound.{due-some, rung-sound}
 use Rattle.laws.proofs.EntryOfPop.{due-head, head-entry, head-least, no-entry, not-due, rung-timer-other, rung-timer-head, rung-entry-other, rung-entry-head}
 use Rattle.laws.proofs.Written.{headReports, headWord, rung-words, rung-long, rung-reported, rung-left, handle-of-word}
-use Rattle.promises.specs.Turns.{Line, Ledger, owed, rung}
+use Rattle.promises.specs.Turns.{Line, Ledger, rung}
 use Rattle.promises.proofs.Told.{told, told-none, told-other, told-same, told-append}
 use Rattle.promises.proofs.Tracks.{Tracks, bit-small}
 use Rattle.promises.proofs.TracksPop.{headHandle, heardIf, heard, head-in, pop-tracks}
-use Rattle.promises.proofs.TracksHead.{ready, Safe, Entered, ready-entry, head-ready}
+use Rattle.promises.proofs.TracksHead.{ready, Safe, ready-entry, head-ready}
 
 -- a handle that is ready, and whose deadline is at or before the reading
 abbrev pub called : Ledger → ℕ → Handle → Bool

@@ -1,14 +1,14 @@
 -- After any call, refused or not, the set is as the ledger then says.
 -- Assumes nothing.
 use mathlib.Core.Path.{_≡_, refl, sym, ap, subst, _∙_}
-use mathlib.Core.Bool.{true, false}
+use mathlib.Core.Bool.{false}
 use mathlib.Core.Option.{some}
-use mathlib.Core.List.{List, [], map}
+use mathlib.Core.List.{List, map}
 use Prim.Native.Nat.{ℕ, _+_, _≤_, _<_, _^_}
 use native.Mathlib.Omega.{arith}
 use lib.ListN.{length, take}
 use Rattle.theory.proofs.Tests.{true-false}
-use Rattle.refusals.specs.Answer.{Answer, accepted, valueOr, Outcome, kept}
+use Rattle.refusals.specs.Answer.{accepted, valueOr, Outcome, kept}
 use Rattle.refusals.proofs.Times.{timely-value}
 use Rattle.heap.specs.Capacity.{cap}
 use Rattle.interval.specs.declared.Policy.{Policy}
@@ -27,7 +27,7 @@ use Rattle.laws.proofs.CallCases.{LetIn, add-by, reset-by, cancel-by, drain-by,
 use Rattle.laws.proofs.DrainSound.{drained-sound, drained-open}
 use Rattle.laws.proofs.ClosedSound.{closed-shut}
 use Rattle.laws.proofs.AdvancedSound.{fromStart, advanced-keeps}
-use Rattle.promises.specs.Turns.{Line, Ledger, at, moved, seen, note}
+use Rattle.promises.specs.Turns.{Ledger, at, moved, seen, note}
 use Rattle.promises.specs.Engine.{handed}
 use Rattle.promises.proofs.Told.{told, swept}
 use Rattle.promises.proofs.Tracks.{Tracks}

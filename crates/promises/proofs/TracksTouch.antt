@@ -2,19 +2,15 @@
 -- handle has another place.
 -- Assumes nothing.
 use mathlib.Core.Path.{_≡_, refl, sym, ap, subst, _∙_}
-use mathlib.Core.Bool.{Bool, true}
+use mathlib.Core.Bool.{Bool}
 use mathlib.Core.Option.{Option, none, some}
 use Prim.Native.Nat.{ℕ}
 use native.Mathlib.Omega.{arith}
-use lib.ListN.{length}
 use Rattle.theory.proofs.Update.{upd-all}
-use Rattle.theory.proofs.Tests.{none-some}
-use Rattle.heap.specs.Capacity.{cap}
 use Rattle.heap.specs.declared.Entry.{Entry}
 use Rattle.word.specs.Rules as Word
 use Rattle.state.specs.declared.Life.{Life}
 use Rattle.state.specs.declared.Life.the-variants.{Free, Live, Cancelled}
-use Rattle.state.specs.declared.Held.{Held}
 use Rattle.state.specs.declared.Timer.{Timer}
 use Rattle.state.specs.declared.Set.{Set}
 use Rattle.state.specs.declared.Handle.{Handle}

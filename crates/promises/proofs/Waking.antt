@@ -1,21 +1,20 @@
 -- Where nobody waits and every line has been drained, the next wake is the least deadline owed.
 -- Assumes nothing.
 use mathlib.Core.Path.{_≡_, refl, sym, ap, subst, _∙_}
-use mathlib.Core.Bool.{Bool, true, false, not, cond, _&&_}
+use mathlib.Core.Bool.{Bool, true, false, cond}
 use mathlib.Core.Option.{Option, none, some}
 use Prim.Native.Nat.{ℕ, _≤_, _<_}
 use native.Mathlib.Omega.{arith}
 use lib.Dec.{eqb}
-use borrow.Author.Tests.{eqb-true, ne-eqb, eqb-false}
-use Rattle.theory.proofs.Tests.{none-some, true-false, is-false, by-ref, ref-eq}
-use Rattle.refusals.specs.Answer.{Answer, accepted}
+use borrow.Author.Tests.{eqb-true, eqb-false}
+use Rattle.theory.proofs.Tests.{none-some, true-false, is-false}
+use Rattle.refusals.specs.Answer.{accepted}
 use Rattle.heap.specs.Capacity.{cap}
 use Rattle.heap.specs.declared.Entry.{Entry}
 use Rattle.heap.specs.Rules.{entryAt}
 use Rattle.heap.specs.Calls.{peekSound}
 use Rattle.state.specs.declared.Life.{Life}
 use Rattle.state.specs.declared.Life.the-variants.{Free, Live, Cancelled, Retired}
-use Rattle.state.specs.declared.Held.{Held}
 use Rattle.state.specs.declared.Set.{Set}
 use Rattle.state.specs.declared.Handle.{Handle}
 use Rattle.state.specs.State.{timerAt}
@@ -25,9 +24,9 @@ use Rattle.laws.specs.EntryOf.{heldEntry, entryOf, waiting}
 use Rattle.laws.proofs.Naming.{names-same, live-in-range}
 use Rattle.laws.proofs.ByHandle.{handleAt}
 use Rattle.laws.proofs.EntryOfPop.{head-entry, head-least}
-use Rattle.promises.specs.Turns.{Line, Ledger, owed, Least}
+use Rattle.promises.specs.Turns.{Ledger, owed, Least}
 use Rattle.promises.proofs.Tracks.{Living, Stands, Tracks}
-use Rattle.promises.proofs.TracksHead.{ready, ready-entry}
+use Rattle.promises.proofs.TracksHead.{ready-entry}
 
 module _ (B : Type 0) (s : Set) (L : Ledger) (tracks : Tracks B s L) (sound : Sound s) (idle : (x : ℕ) → x < cap → waiting s x ≡ false)
     (calm : (h : Handle) → L .line h .drained ≡ true) where

@@ -1,3 +1,4 @@
 pub mod Bench
 pub mod Turns
 pub mod Engine
+pub mod Timeouts
