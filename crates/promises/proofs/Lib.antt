@@ -13,3 +13,4 @@ pub mod Moments
 pub mod Engine
 pub mod Owing
 pub mod Timeouts
+pub mod Bound

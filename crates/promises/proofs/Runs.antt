@@ -44,7 +44,7 @@ next-good B r g c l = record {
 -- any calls more
 from-good : (cs : List (Call × List ℕ)) (B : Type 0) (r : Run ours) → Good B r → Good (B × Bounded ours r cs) (from ours r cs)
 unfolding from Bounded
-from-good [] B r g = record { fit = g .fit; follows = follows-under B (B × Low (r .ledger)) (λ b. b .0) (r .state) (r .ledger) (g .follows) }
+from-good [] B r g = record { fit = g .fit; follows = follows-under B (B × Bounded ours r []) (λ b. b .0) (r .state) (r .ledger) (g .follows) }
 from-good (c ∷ cs) B r g =
     let q = next ours r (c .0) (c .1) in
     let k = from-good cs (B × Low (r .ledger)) q (next-good B r g (c .0) (c .1)) in
