@@ -1,2 +1,5 @@
 pub mod Bench
+pub mod Engine
+pub mod Traces
+pub mod Tracing
 pub mod Turns
