@@ -1,2 +1,3 @@
 pub mod Bench
 pub mod Traces
+pub mod Useless

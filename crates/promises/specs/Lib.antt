@@ -3,3 +3,4 @@ pub mod Engine
 pub mod Traces
 pub mod Tracing
 pub mod Turns
+pub mod Useless
