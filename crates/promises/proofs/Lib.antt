@@ -1,9 +1,11 @@
 pub mod Bench
+pub mod Traces
+pub mod Useless
+pub mod Told
 pub mod Tracks
 pub mod TracksTouch
-pub mod Told
-pub mod TracksPop
 pub mod TracksDrain
+pub mod TracksPop
 pub mod TracksHead
 pub mod TracksRing
 pub mod TracksSteps
