@@ -1,5 +1,5 @@
 pub mod Bench
-pub mod Traces
+pub mod Agreement
 pub mod Useless
 pub mod Told
 pub mod Tracks
