@@ -315,22 +315,25 @@ ends-of-time =
     false none none
 
 -- A CLOSE: the ledger is closed. What was owed stays so in it, and nothing more is reported: refused with 2, room or none.
--- The fired timer polls fired, that of the heap gone
+-- The fired timer polls fired; those of the heap and of the list are gone
 abbrev pub shut : Trace
 shut =
     trace 21
     (C.Add 10 answers accepted (handle (0 with-use 0))
     ∷ C.Add 20 answers accepted (handle (1 with-use 0))
     ∷ C.Turn 10 answers accepted (counts 1 1) reporting (0 with-use 0 ∷ [])
+    ∷ C.Add 30 answers accepted (handle (2 with-use 0))
     ∷ C.Close answers accepted nothing
     ∷ C.Turn 20 answers refused 2
     ∷ C.Advance 20 answers refused 2 lending 0
     ∷ C.Add 5 answers refused 2
     ∷ C.Poll (0 with-use 0) answers accepted (polled 1)
     ∷ C.Poll (1 with-use 0) answers accepted (polled 2)
+    ∷ C.Poll (2 with-use 0) answers accepted (polled 2)
     ∷ [])
     (not-owed (0 with-use 0) (record { live = true; due = 10; reported = true; drained = true; resets = 0 })
     ∷ is-owed (1 with-use 0) (record { live = true; due = 20; reported = false; drained = true; resets = 0 })
+    ∷ is-owed (2 with-use 0) (record { live = true; due = 30; reported = false; drained = false; resets = 0 })
     ∷ [])
     true (some 20) none
 

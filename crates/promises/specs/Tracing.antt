@@ -46,6 +46,7 @@ pub record Has : Type 0 where
   pub line : Line
   pub owed : Bool
 
+-- it is owed, or not, and this is its line
 abbrev pub is-owed : Handle → Line → Has
 is-owed h l = record { handle = h; line = l; owed = true }
 
@@ -118,6 +119,7 @@ ended r t =
     && (sameNumbers (timeCode (leastIn (r .ledger) (addedIn (t .calls)))) (timeCode (t .least))
     && sameNumbers (code (ours .step (r .state) C.NextWake [] .answer)) (code (accepted (wake (t .wake))))))
 
+-- whether all of it is as it must be
 abbrev pub right : Trace → Bool
 right t = answered (run ours []) (t .calls) && ended (run ours (callsOf (t .calls))) t
 

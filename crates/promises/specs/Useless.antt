@@ -1,5 +1,6 @@
 -- Useless engines, each the project's own but for one thing: refusing every call; reporting nothing, or always the same timer; a drain
--- that does nothing; all owed timers at the first turn, whatever their deadline, and none later. None of them meets the statement.
+-- that does nothing, in turns too; all owed timers at the first turn, whatever their deadline, and none later. Two more are right at
+-- every turn: a drain call that does nothing, and a next wake that is always none. None of them meets the statement.
 -- Assumes nothing.
 use mathlib.Core.Bool.{Bool, true, false}
 use mathlib.Core.Option.{Option, none, some}
