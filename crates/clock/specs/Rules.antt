@@ -3,7 +3,6 @@
 use mathlib.Core.Bool.{Bool, true, false, cond}
 use Prim.Native.Nat.{ℕ, _+_, _-_}
 use lib.Dec.{ltb}
-use Rattle.refusals.specs.declared.Refusal.{Refusal}
 use Rattle.refusals.specs.declared.Refusal.the-variants.{CounterBehind, WrongMode}
 use Rattle.refusals.specs.Numbers.{numberOf}
 use Rattle.refusals.specs.Answer.{Answer, accepted, refused, refuse, Outcome, Nothing, done, kept}

@@ -6,13 +6,12 @@ use native.Mathlib.Omega.{arith}
 use Rattle.theory.proofs.Tests.{ref-lt, ref-eq, cond-ref}
 use Rattle.refusals.specs.Answer.{Outcome}
 use Rattle.heap.specs.declared.Slot.{Slot}
-use Rattle.heap.specs.declared.Pos.{Pos}
 use Rattle.heap.specs.declared.Place.{Place}
 use Rattle.heap.specs.declared.SlotState.{SlotState}
 use Rattle.heap.specs.declared.SlotState.the-variants.{Full, Empty}
 use Rattle.heap.specs.declared.Heap.{Heap}
 use Rattle.heap.specs.Capacity.{cap}
-use Rattle.heap.specs.Rules.{entryAt, stateAt, removedOf}
+use Rattle.heap.specs.Rules.{entryAt, stateAt}
 use Rattle.heap.specs.Sound.{Sound}
 use Rattle.heap.specs.Calls.{Off, removeBy, pushSound, removeSound, popSound}
 use Rattle.heap.proofs.SoundFacts.{full-back}

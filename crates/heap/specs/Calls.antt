@@ -1,6 +1,6 @@
 -- The rules of the calls: what each makes of any heap, its refusals included, in the terms of the rules.
 -- Assumes nothing.
-use mathlib.Core.Bool.{Bool, cond}
+use mathlib.Core.Bool.{cond}
 use mathlib.Core.Option.{Option, none, some}
 use Prim.Native.Nat.{ℕ}
 use lib.Dec.{ltb, eqb}

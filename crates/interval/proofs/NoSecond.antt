@@ -1,6 +1,5 @@
 -- No function on intervals has a second answer.
 -- Assumes nothing.
-use mathlib.Core.Path.{_≡_}
 use mathlib.Core.Bool.{Bool}
 use Prim.Native.Nat.{ℕ}
 use Rattle.theory.specs.Promise.{NoSecond}

@@ -11,7 +11,6 @@ use Rattle.theory.specs.First.{firstBad}
 use Rattle.refusals.specs.Answer.{Answer, accepted, refused}
 use Rattle.heap.specs.Capacity.{cap}
 use Rattle.heap.specs.declared.Slot.{Slot}
-use Rattle.heap.specs.declared.Place.{Place}
 use Rattle.heap.specs.declared.Entry.{Entry}
 use Rattle.heap.specs.declared.Heap.{Heap}
 use Rattle.heap.specs.Rules.{entryAt}

@@ -7,7 +7,7 @@ use Prim.Native.Nat.{ℕ, _+_, _*_}
 use lib.Dec.{eqb}
 use lib.ListN.{replicate}
 use Rattle.heap.specs.Capacity.{cap}
-use mathlib.Core.Option.{Option, none, some}
+use mathlib.Core.Option.{none, some}
 use Rattle.refusals.specs.Answer.{Answer, accepted, refused, Outcome}
 use Rattle.heap.specs.declared.Entry.{Entry}
 use Rattle.heap.specs.declared.Slot.{Slot}

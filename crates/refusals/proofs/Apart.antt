@@ -1,7 +1,7 @@
 -- Two refusals with one number are one refusal, two times that say the same are one, and no function here has a second answer.
 -- Assumes nothing.
 use mathlib.Core.Path.{_≡_, refl, ap}
-use mathlib.Core.List.{List, [], _∷_}
+use mathlib.Core.List.{[], _∷_}
 use Prim.Native.Nat.{ℕ, _+_}
 use lib.ListN.{getD}
 use Rattle.theory.specs.Promise.{NoSecond, TellsApart}

@@ -6,7 +6,7 @@ use Prim.Native.Nat.{ℕ, _^_}
 use native.Mathlib.Omega.{arith}
 use lib.Dec.{ltb}
 use Rattle.refusals.specs.declared.Refusal.the-variants.{TimeOverflow}
-use Rattle.refusals.specs.Answer.{Answer, accepted, refuse}
+use Rattle.refusals.specs.Answer.{accepted, refuse}
 use Rattle.refusals.specs.Times.{timely}
 
 -- an accepted sum is the sum

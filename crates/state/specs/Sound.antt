@@ -2,7 +2,7 @@
 -- it, nor anything that merely holds of the sets that calls lead to.
 -- Assumes nothing.
 use mathlib.Core.Path.{_≡_}
-use mathlib.Core.Bool.{Bool, true, false}
+use mathlib.Core.Bool.{true, false}
 use Prim.Native.Nat.{ℕ, _<_, _^_}
 use lib.ListN.{length}
 use Rattle.theory.specs.Chain.{chainOkb}

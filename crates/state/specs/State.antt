@@ -2,15 +2,11 @@
 -- Assumes nothing.
 use mathlib.Core.Bool.{Bool, true, false}
 use mathlib.Core.Option.{Option, none, some}
-use mathlib.Core.List.{List}
 use Prim.Native.Nat.{ℕ}
 use lib.ListN.{getD, replicate}
 use Rattle.heap.specs.Capacity.{cap}
-use Rattle.heap.specs.declared.Place.{Place}
-use Rattle.heap.specs.declared.Slot.{Slot}
 use Rattle.heap.specs.Calls as Heap
-use Rattle.state.specs.declared.Life.{Life}
-use Rattle.state.specs.declared.Life.the-variants.{Free, Live, Cancelled, Retired}
+use Rattle.state.specs.declared.Life.the-variants.{Free}
 use Rattle.state.specs.declared.Waiting.{Waiting}
 use Rattle.state.specs.declared.Waiting.the-variants.{No, Last, Before}
 use Rattle.state.specs.declared.Held.{Held}

@@ -1,14 +1,13 @@
 -- A scan for the first number that fails a test: the turns of a loop that makes it, and what its answer tells.
 -- Assumes nothing.
-use mathlib.Core.Path.{_≡_, refl, sym, ap, _∙_}
-use mathlib.Core.Logic.{_≢_}
+use mathlib.Core.Path.{_≡_, refl, ap, _∙_}
 use mathlib.Core.Bool.{Bool, true, false, cond}
-use mathlib.Core.Option.{Option, none, some}
+use mathlib.Core.Option.{none, some}
 use Prim.Native.Nat.{ℕ, zero, suc, _+_, _-_, _≤_, _<_}
 use native.Mathlib.Omega.{arith}
 use Rattle.theory.specs.First.{firstBad}
 use Rattle.theory.proofs.Order.{split}
-use Rattle.theory.proofs.Tests.{true-false, none-some}
+use Rattle.theory.proofs.Tests.{none-some}
 
 module _ (ok : ℕ → Bool) where
   -- a turn that goes on

@@ -1,6 +1,6 @@
 -- When a promise leaves no second answer, and when a reading of answers tells them apart.
 -- Assumes nothing.
-use mathlib.Core.Path.{_≡_, refl, sym, ap, _∙_}
+use mathlib.Core.Path.{_≡_, sym, ap, _∙_}
 use Rattle.theory.specs.Promise.{NoSecond, TellsApart}
 
 -- a promise that the answer, as it is read, is what a rule gives leaves no second answer where the reading tells answers apart

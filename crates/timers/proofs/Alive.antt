@@ -11,7 +11,7 @@ use Rattle.theory.specs.First.{firstBad}
 use Rattle.theory.proofs.Tests.{ref-lt, ref-true, none-some}
 use Rattle.refusals.specs.declared.Refusal.{Refusal}
 use Rattle.refusals.specs.Numbers.{numberOf}
-use Rattle.refusals.specs.Answer.{Answer, Outcome, kept}
+use Rattle.refusals.specs.Answer.{Outcome, kept}
 use Rattle.refusals.specs.declared.time.Time.{Time}
 use Rattle.refusals.specs.Times as Times
 use Rattle.heap.specs.Capacity.{cap}

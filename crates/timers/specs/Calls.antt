@@ -1,6 +1,6 @@
 -- The rules of the calls: what each makes of any set, its refusals in their order, and `step`, which is all of them.
 -- Assumes nothing.
-use mathlib.Core.Bool.{Bool, true, false, not, cond, _&&_}
+use mathlib.Core.Bool.{cond, _&&_}
 use mathlib.Core.Option.{Option, none, some}
 use mathlib.Core.List.{List, [], _∷_}
 use Prim.Native.Nat.{ℕ}
@@ -18,7 +18,6 @@ use Rattle.interval.specs.declared.Policy.{Policy}
 use Rattle.interval.specs.Rules.{tickOf, restartOf}
 use Rattle.state.specs.declared.Life.{Life}
 use Rattle.state.specs.declared.Life.the-variants as Life
-use Rattle.state.specs.declared.Timer.{Timer}
 use Rattle.state.specs.declared.Set.{Set}
 use Rattle.state.specs.declared.Handle.{Handle}
 use Rattle.state.specs.State.{timerAt}
