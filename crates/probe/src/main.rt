@@ -1,6 +1,6 @@
 // The probe: makes recorded calls on the proved crates and prints what each answers and what it leaves behind, so that a program in
 // Rust that takes the same records can be held against it, line by line. It keeps a set of timers, a heap of its own and a clock.
-// FORMAT.md, beside `src/`, has the form of a record and of a line.
+// `oracle/FORMAT.md` has the form of a record and of a line.
 mod clocks;
 mod heaps;
 mod record;
