@@ -89,6 +89,7 @@ impl Task {
 }
 
 impl Wake for Task {
+    /// Counts the wake.
     fn wake(self: Arc<Self>) {
         self.woken.fetch_add(1, SeqCst);
     }

@@ -29,13 +29,14 @@ struct Family {
 }
 
 /// The families. A round has 20 seeds.
-static FAMILIES: [Family; 17] = [
+static FAMILIES: [Family; 18] = [
     family("short: one timer", 2, Way::Short(short::one_timer)),
     family("short: two timers", 2, Way::Short(short::two_timers)),
     family("short: ticks", 1, Way::Short(short::ticks)),
     family("short: heap", 1, Way::Short(short::heap)),
     family("short: clock", 1, Way::Short(short::clock)),
-    family("mixed", 2, Way::Styled(styles::MIXED)),
+    family("mixed", 1, Way::Styled(styles::MIXED)),
+    family("long session", 1, Way::Styled(styles::LONG)),
     family("ties", 1, Way::Styled(styles::TIES)),
     family("reset storms", 1, Way::Styled(styles::STORMS)),
     family("cancels", 1, Way::Styled(styles::CANCELS)),

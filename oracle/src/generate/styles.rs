@@ -295,6 +295,29 @@ pub const MIXED: Style = Style {
     ending: no_more,
 };
 
+/// One long session, in which places are used many times and words grow.
+pub const LONG: Style = Style {
+    opening: several,
+    length: (3_000, 6_000),
+    kinds: &[
+        (15, Kind::Add),
+        (20, Kind::Reset),
+        (14, Kind::Cancel),
+        (6, Kind::Drain),
+        (5, Kind::Advance),
+        (16, Kind::Turn),
+        (2, Kind::NextWake),
+        (5, Kind::Poll),
+        (6, Kind::Tick),
+        (3, Kind::Restart),
+        (4, Kind::Heap),
+        (4, Kind::Clock),
+    ],
+    deadline: ahead,
+    reading: onward,
+    ending: no_more,
+};
+
 /// Deadlines that are often equal.
 pub const TIES: Style = Style {
     opening: at_once,

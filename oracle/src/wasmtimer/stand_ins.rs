@@ -27,6 +27,7 @@ pub mod task {
     }
 
     impl AtomicWaker {
+        /// One that keeps no waker yet.
         #[allow(clippy::new_without_default)]
         pub fn new() -> AtomicWaker {
             AtomicWaker {
@@ -70,6 +71,7 @@ macro_rules! unsafe_pinned {
 pub struct Date;
 
 impl Date {
+    /// Always the beginning of time.
     pub fn now() -> f64 {
         0.0
     }
