@@ -4,15 +4,36 @@ use mathlib.Core.Path.{_≡_}
 use mathlib.Core.Bool.{Bool}
 use mathlib.Core.List.{List}
 use Prim.Native.Nat.{ℕ, _+_, _*_, _%_}
+use Rattle.state.specs.declared.Set.{Set}
 use Rattle.timers.specs.declared.Call.{Call}
+use Rattle.timers.specs.declared.Reply.{Reply}
+use Rattle.timers.specs.Calls.{said}
 use Rattle.records.specs.declared.fields.Fields.{Fields}
 use Rattle.records.specs.declared.Decoded.{Decoded}
+use Rattle.records.specs.declared.Wake.{Wake}
+use Rattle.records.specs.declared.Answered.{Answered}
+use Rattle.records.specs.Answers.{operationOf, wakeIn, wakeAfter, answerOf, replayOf, saidWake, toldBy}
 use Rattle.records.specs.Records.{fieldsOf, noHandle, noValue, bare, provided, callOf, decodeOf, saidDecoded}
 
 abbrev pub Decodes : List ℕ → Decoded → Type 0
 Decodes bytes r = saidDecoded r ≡ decodeOf bytes
 
+abbrev pub Answers : Set → Call → List ℕ → Answered → List ℕ → Type 0
+Answers s c l r l′ = toldBy r l′ ≡ answerOf s c l
+
+abbrev pub Replays : Set → List ℕ → List ℕ → Answered → List ℕ → Type 0
+Replays s bytes l r l′ = toldBy r l′ ≡ replayOf s bytes l
+
 -- and the functions inside
+
+abbrev pub Operates : Call → ℕ → Type 0
+Operates c r = r ≡ operationOf c
+
+abbrev pub WakesIn : Reply → Wake → Type 0
+WakesIn a r = saidWake r ≡ wakeIn (said a)
+
+abbrev pub WakesAfter : Set → Reply → Wake → Type 0
+WakesAfter s a r = saidWake r ≡ wakeAfter s (said a)
 
 abbrev pub Parts : List ℕ → Fields → Type 0
 Parts bytes r = r ≡ fieldsOf bytes
