@@ -3,9 +3,14 @@
 use mathlib.Core.Path.{_≡_, refl}
 use mathlib.Core.List.{List, [], _∷_}
 use Prim.Native.Nat.{ℕ}
+use mathlib.Core.Option.{none, some}
 use Rattle.refusals.specs.Answer.{Answer, accepted, refused}
 use Rattle.timers.specs.declared.Call.{Call}
 use Rattle.timers.specs.declared.Call.the-variants as C
+use Rattle.state.specs.declared.Handle.{Handle}
+use Rattle.timers.specs.Calls.{nothing, handle, counts, wake, polled}
+use Rattle.records.specs.Answers.{unread, made}
+use Rattle.records.specs.Lines.{text, decimal, valuesText, answerText, lineOf}
 use Rattle.records.specs.Records.{provided, fieldsOf, callOf, decodeOf}
 
 -- a record: its first two bytes, the last byte of the use, the last byte of the value
@@ -48,3 +53,43 @@ poll-with-value = refl
 pub close-with-use : decodeOf (bytes 0x80 0 1 0) ≡ refused 12
 unfolding decodeOf callOf fieldsOf provided
 close-with-use = refl
+
+-- the lines of row 13
+
+abbrev handleAt : ℕ → ℕ → Handle
+handleAt p u = record { place = record { 0 = p }; uses = u }
+
+pub line-add : lineOf (made 0 (accepted (handle (handleAt 2 0))) none) [] ≡ text "0 0 2 0\n"
+unfolding lineOf answerText valuesText decimal
+line-add = refl
+
+-- the list holds three reports, and then words of before
+pub line-turn : lineOf (made 5 (accepted (counts 3 3)) none) (1 ∷ 0 ∷ 2 ∷ 99 ∷ 99 ∷ []) ≡ text "5 0 3 1:0 0:0 2:0 w -\n"
+unfolding lineOf answerText valuesText decimal
+line-turn = refl
+
+pub line-poll : lineOf (made 7 (accepted (polled 1)) none) [] ≡ text "7 0 1\n"
+unfolding lineOf answerText valuesText decimal
+line-poll = refl
+
+pub line-cancel : lineOf (made 2 (accepted nothing) none) [] ≡ text "2 0\n"
+unfolding lineOf answerText valuesText decimal
+line-cancel = refl
+
+pub line-dead : lineOf (made 7 (refused 3) none) [] ≡ text "7 3\n"
+unfolding lineOf answerText valuesText decimal
+line-dead = refl
+
+-- a record that makes no call; wakes; and the largest numbers
+
+pub line-bad : lineOf (unread 12) [] ≡ text "? 12\n"
+unfolding lineOf answerText valuesText decimal
+line-bad = refl
+
+pub line-wake : lineOf (made 6 (accepted (wake (some 18446744073709551615))) none) [] ≡ text "6 0 18446744073709551615\n"
+unfolding lineOf answerText valuesText decimal
+line-wake = refl
+
+pub line-advance : lineOf (made 4 (accepted (counts 1 2)) (some 1000)) (0xffff_ffff_0000_003f ∷ []) ≡ text "4 0 1 63:4294967295 w 1000\n"
+unfolding lineOf answerText valuesText decimal
+line-advance = refl

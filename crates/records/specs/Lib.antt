@@ -1,3 +1,4 @@
 pub mod Records
 pub mod Answers
+pub mod Lines
 pub mod Promises
