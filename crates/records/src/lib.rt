@@ -3,12 +3,16 @@
 //
 // `decode` reads a record, `answer` makes a call and says what its line is to tell, and `replay` is the two together.
 mod fields;
+mod text;
 
 use refusals::Refusal;
 use state::Set;
 use timers::Call;
 use timers::Reply;
 ghost use Rattle.records.specs.Promises.{Decodes, Answers, Replays, Operates, WakesIn, WakesAfter};
+
+// The longest line: `room` of specs/Lines.antt.
+pub const LINE: usize = 67 + heap::CAP * 22;
 
 // The call that a record makes, or why it makes none.
 pub enum Decoded {
