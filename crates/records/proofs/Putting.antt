@@ -3,10 +3,11 @@
 use mathlib.Core.Path.{_≡_, refl, sym, ap, subst, _∙_}
 use mathlib.Core.List.{List, [], _∷_, _++_}
 use Prim.Native.Nat.{ℕ, suc, _+_, _≤_}
-use native.Mathlib.Nat.{le-trans, add-zero, add-suc, suc-add}
+use native.Mathlib.Nat.{le-trans, add-zero, add-suc, suc-add, zero-add}
 use native.Mathlib.Omega.{arith}
-use lib.ListN.{length, set, length-append}
-use lib.Seq.{sets}
+use lib.ListN.{length, set, drop, length-append}
+use lib.Seq.{sets, sets-eq}
+use Rattle.records.specs.Lines.{Written, writtenOf}
 use Rattle.records.specs.Puts.{Puts}
 
 sets-append : (l : List ℕ) (i : ℕ) (s t : List ℕ) → sets (sets l i s) (i + length s) t ≡ sets l i (s ++ t)
@@ -36,3 +37,13 @@ module _ {out : List ℕ} {at : ℕ} where
   -- the same text, and a bound that is no lower
   pub puts-same : {k k′ r : ℕ} {t t′ o : List ℕ} → Puts k out at t o r → t ≡ t′ → k ≤ k′ → Puts k′ out at t′ o r
   puts-same p e h = puts-as e (rw e at (le-trans (p .short) h)) p
+
+-- a text put at the start of bytes that are no fewer stands there, and behind it is what was there
+pub puts-whole : {k r : ℕ} {out t out′ : List ℕ} → Puts k out 0 t out′ r → k ≤ length out → record { count = r; bytes = out′ } ≡ writtenOf t out
+unfolding writtenOf
+puts-whole {k} {r} {out} {t} {out′} p h =
+    let e : out′ ≡ t ++ drop (length t) out =
+    p .written ∙ sets-eq t out 0 (omega (arith, p .short)) ∙ ap (λ (n : ℕ). t ++ drop n out) (zero-add (length t))
+    in
+    let f : r ≡ length t = p .next ∙ zero-add (length t) in
+    λ i. record { count = f i; bytes = e i }

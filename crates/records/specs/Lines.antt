@@ -7,7 +7,7 @@ use Prim.Native.Nat.{ℕ, zero, suc, _+_, _*_, _/_, _%_, _^_}
 use Prim.Native.Char.{code}
 use Prim.Native.String.{String, [] as empty, _∷_ as more}
 use lib.Dec.{ltb}
-use lib.ListN.{length, take}
+use lib.ListN.{length, take, drop}
 use Rattle.refusals.specs.Answer.{Answer, accepted, refused}
 use Rattle.heap.specs.Capacity.{cap}
 use Rattle.state.specs.declared.Handle.{Handle}
@@ -77,3 +77,11 @@ lineOf (made o a w) l = decimal o ++ (answerText a w l ++ text "\n")
 -- no line is longer: 67 bytes, and 22 for each handle
 abbrev pub room : ℕ
 room = 67 + cap * 22
+
+-- what writing a text into bytes answers and leaves: how long it is; the text, and then the bytes that were there
+pub record Written : Type 0 where
+  pub count : ℕ
+  pub bytes : List ℕ
+
+unfoldable pub writtenOf : List ℕ → List ℕ → Written
+writtenOf t out = record { count = length t; bytes = t ++ drop (length t) out }

@@ -11,8 +11,10 @@ use Rattle.timers.specs.Calls.{said}
 use Rattle.records.specs.declared.fields.Fields.{Fields}
 use Rattle.records.specs.declared.Decoded.{Decoded}
 use Rattle.records.specs.declared.Wake.{Wake}
+use Rattle.records.specs.declared.Line.{Line}
 use Rattle.records.specs.declared.Answered.{Answered}
-use Rattle.records.specs.Answers.{operationOf, wakeIn, wakeAfter, answerOf, replayOf, saidWake, toldBy}
+use Rattle.records.specs.Answers.{operationOf, wakeIn, wakeAfter, answerOf, replayOf, saidWake, saidLine, toldBy}
+use Rattle.records.specs.Lines.{lineOf, Written, writtenOf}
 use Rattle.records.specs.Records.{fieldsOf, noHandle, noValue, bare, provided, callOf, decodeOf, saidDecoded}
 
 abbrev pub Decodes : List ℕ → Decoded → Type 0
@@ -23,6 +25,9 @@ Answers s c l r l′ = toldBy r l′ ≡ answerOf s c l
 
 abbrev pub Replays : Set → List ℕ → List ℕ → Answered → List ℕ → Type 0
 Replays s bytes l r l′ = toldBy r l′ ≡ replayOf s bytes l
+
+abbrev pub Writes : Line → List ℕ → List ℕ → ℕ → List ℕ → Type 0
+Writes k l out r out′ = record { count = r; bytes = out′ } ≡ writtenOf (lineOf (saidLine k) l) out
 
 -- and the functions inside
 

@@ -1,7 +1,8 @@
 // Records of 14 bytes, the calls that they make, and the lines that answer them: what a program that replays records does between
 // reading and writing.
 //
-// `decode` reads a record, `answer` makes a call and says what its line is to tell, and `replay` is the two together.
+// `decode` reads a record, `answer` makes a call and says what its line is to tell, and `replay` is the two together; `write_line`
+// writes the line.
 mod fields;
 mod text;
 
@@ -9,9 +10,9 @@ use refusals::Refusal;
 use state::Set;
 use timers::Call;
 use timers::Reply;
-ghost use Rattle.records.specs.Promises.{Decodes, Answers, Replays, Operates, WakesIn, WakesAfter};
+ghost use Rattle.records.specs.Promises.{Decodes, Answers, Replays, Writes, Operates, WakesIn, WakesAfter};
 
-// The longest line: `room` of specs/Lines.antt.
+// No line is longer: `room` of specs/Lines.antt.
 pub const LINE: usize = 67 + heap::CAP * 22;
 
 // The call that a record makes, or why it makes none.
@@ -81,6 +82,14 @@ pub fn replay(s: Set, bytes: [u8; 14], list: &mut [u64]) -> Answered
             line: Line::Unread(why),
         },
     }
+}
+
+// Writes a line at the start of the lent bytes, and answers how long it is. The reports are read from the list that was lent to the
+// call; a count above its length is taken as its length.
+pub fn write_line(line: Line, list: &[u64; heap::CAP], out: &mut [u8; LINE]) -> usize
+    ensures { λ r. ⌜ Writes line (now (list .entry)) (now (out .entry)) r (now (out .exit)) ⌝ }
+{
+    text::put_line(out, line, list)
 }
 
 // The operation of a call; that of a tick or an interval reset is above those that a record can name.

@@ -1,5 +1,6 @@
 // The parts of a line, put into lent bytes one behind the other: each function puts one part at an offset, leaves the other bytes
 // as they were, and answers the offset behind the part.
+use crate::Line;
 use crate::Wake;
 use timers::Reply;
 use word::Polled;
@@ -9,12 +10,36 @@ ghost use lib.ListN.{length, take};
 ghost use Rattle.heap.specs.Capacity.{cap};
 ghost use Rattle.state.specs.Handles.{handleOf};
 ghost use Rattle.timers.specs.Calls.{said};
-ghost use Rattle.records.specs.Answers.{saidWake};
-ghost use Rattle.records.specs.Lines.{decimal, spaced, handleText, handlesText, wakeText, reportText, answerText};
+ghost use Rattle.records.specs.Answers.{saidWake, saidLine};
+ghost use Rattle.records.specs.Lines.{decimal, spaced, handleText, handlesText, wakeText, reportText, answerText, lineOf, room};
 ghost use Rattle.records.specs.Puts.{Puts, Least, Polls};
 
+// Puts a whole line from the start on.
+pub fn put_line(out: &mut [u8], line: Line, list: &[u64]) -> usize
+    requires { ⌜ length (now list) ≤ cap ⌝ }
+    requires { ⌜ room ≤ length (now out) ⌝ }
+    ensures { λ r. ⌜ Puts room (now (out .entry)) 0 (lineOf (saidLine line) (now (list .entry))) (now (out .exit)) r ⌝ }
+{
+    match line {
+        Line::Unread(why) => {
+            let a = put(out, 0, b'?');
+            let b = put_number(out, a, refusals::number(why) as u64);
+            put(out, b, b'\n')
+        }
+        Line::Made {
+            operation,
+            reply,
+            wake,
+        } => {
+            let a = put_digits(out, 0, operation as u64);
+            let b = put_answer(out, a, reply, wake, list);
+            put(out, b, b'\n')
+        }
+    }
+}
+
 // Puts what a call answered: 0 and the values, or the refusal.
-pub fn put_answer(out: &mut [u8], at: usize, reply: Reply, wake: Wake, list: &[u64]) -> usize
+fn put_answer(out: &mut [u8], at: usize, reply: Reply, wake: Wake, list: &[u64]) -> usize
     requires { ⌜ length (now list) ≤ cap ⌝ }
     requires { ⌜ at + (46 + cap * 22) ≤ length (now out) ⌝ }
     ensures { λ r. ⌜ Puts (46 + cap * 22) (now (out .entry)) at (answerText (said reply) (saidWake wake) (now (list .entry))) (now (out .exit)) r ⌝ }
@@ -104,7 +129,7 @@ fn put_handle(out: &mut [u8], at: usize, word: u64) -> usize
 }
 
 // Puts a blank and a number.
-pub fn put_number(out: &mut [u8], at: usize, n: u64) -> usize
+fn put_number(out: &mut [u8], at: usize, n: u64) -> usize
     requires { ⌜ at + 21 ≤ length (now out) ⌝ }
     ensures { λ r. ⌜ Puts 21 (now (out .entry)) at (spaced (decimal n)) (now (out .exit)) r ⌝ }
 {
@@ -113,7 +138,7 @@ pub fn put_number(out: &mut [u8], at: usize, n: u64) -> usize
 }
 
 // Puts a number in decimal, where there is room for its digits.
-pub fn put_digits(out: &mut [u8], at: usize, n: u64) -> usize
+fn put_digits(out: &mut [u8], at: usize, n: u64) -> usize
     requires { ⌜ at + length (decimal n) ≤ length (now out) ⌝ }
     ensures { λ r. ⌜ Puts 20 (now (out .entry)) at (decimal n) (now (out .exit)) r ⌝ }
 {
@@ -134,7 +159,7 @@ fn put_two(out: &mut [u8], at: usize, a: u8, b: u8) -> usize
 }
 
 // Puts one byte.
-pub fn put(out: &mut [u8], at: usize, b: u8) -> usize
+fn put(out: &mut [u8], at: usize, b: u8) -> usize
     requires { ⌜ at < length (now out) ⌝ }
     ensures { λ r. ⌜ Puts 1 (now (out .entry)) at (b ∷ []) (now (out .exit)) r ⌝ }
 {
