@@ -1,0 +1,5 @@
+pub mod Bits
+pub mod Decimal
+pub mod Handles
+pub mod Putting
+pub mod Rows

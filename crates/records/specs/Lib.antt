@@ -1,0 +1,5 @@
+pub mod Records
+pub mod Answers
+pub mod Lines
+pub mod Puts
+pub mod Promises
