@@ -12,13 +12,26 @@ struct Pass {
     came: usize,
 }
 
+// Writes the first bytes of some, which are at most as many as there are.
+fn write_start(n: usize, bytes: &[u8]) {
+    if n <= bytes.len() {
+        io::write_all(STDOUT_FILENO, &bytes[0..n]);
+    }
+}
+
+// Prints a line of this length.
+fn print(n: usize, line: &[u8; LINE]) {
+    write_start(n, line);
+}
+
 // Answers one record with its line.
 fn answered(s: Set, bytes: [u8; 14]) -> Set {
     let mut list = [0u64; CAP];
     let a = records::replay(s, bytes, &mut list);
+    let told = a.line;
     let mut line = [0u8; LINE];
-    let n = records::write_line(a.line, &list, &mut line);
-    io::write_all(STDOUT_FILENO, &line[..n]);
+    let n = records::write_line(told, &list, &mut line);
+    print(n, &line);
     a.set
 }
 
