@@ -3,3 +3,4 @@ pub mod Decimal
 pub mod Handles
 pub mod Putting
 pub mod Rows
+pub mod NoSecond
