@@ -8,7 +8,7 @@ use native.Mathlib.Omega.{arith}
 use lib.ListN.{length, take, getD, length-append}
 use lib.Seq.{take-suc}
 use Rattle.state.specs.Handles.{handleOf}
-use Rattle.records.specs.Lines.{decimal, spaced, handleText, handlesText}
+use Rattle.records.specs.Lines.{spaced, handleText, handlesText}
 use Rattle.records.proofs.Decimal.{digits-of-32}
 
 -- a blank, and place and use of 32 bits with a colon between them

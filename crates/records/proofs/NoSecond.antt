@@ -92,4 +92,5 @@ pub written-apart : TellsApart asWritten
 written-apart = undone-apart asWritten (λ (w : Written). (w .count, w .bytes)) (λ (r : ℕ × List ℕ). refl)
 
 pub write-line-no-second : NoSecond (λ (q : Line × List ℕ × List ℕ) (r : ℕ × List ℕ). Writes (q .0) (q .1) (q .2) (r .0) (r .1))
-write-line-no-second = by-rule asWritten (λ (q : Line × List ℕ × List ℕ). writtenOf (lineOf (saidLine (q .0)) (q .1)) (q .2)) written-apart
+write-line-no-second q r s p p′ =
+    by-rule asWritten (λ (q : Line × List ℕ × List ℕ). writtenOf (lineOf (saidLine (q .0)) (q .1)) (q .2)) written-apart q r s (p .written) (p′ .written)

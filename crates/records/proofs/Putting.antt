@@ -6,7 +6,7 @@ use Prim.Native.Nat.{ℕ, suc, _+_, _≤_}
 use native.Mathlib.Nat.{le-trans, add-zero, add-suc, suc-add, zero-add}
 use native.Mathlib.Omega.{arith}
 use lib.ListN.{length, set, drop, length-append}
-use lib.Seq.{sets, sets-eq}
+use lib.Seq.{sets, sets-eq, length-sets}
 use Rattle.records.specs.Lines.{Written, writtenOf}
 use Rattle.records.specs.Puts.{Puts}
 
@@ -47,3 +47,7 @@ puts-whole {k} {r} {out} {t} {out′} p h =
     in
     let f : r ≡ length t = p .next ∙ zero-add (length t) in
     λ i. record { count = f i; bytes = e i }
+
+-- and no more bytes are put than there are
+pub puts-within : {k at r : ℕ} {out t out′ : List ℕ} → Puts k out at t out′ r → at + k ≤ length out → r ≤ length out′
+puts-within {k} {at} {r} {out} {t} {out′} p h = omega (arith, p .next, p .short, ap length (p .written) ∙ length-sets out at t)

@@ -4,8 +4,7 @@ use mathlib.Core.Path.{_≡_, refl}
 use mathlib.Core.List.{List, [], _∷_}
 use Prim.Native.Nat.{ℕ}
 use mathlib.Core.Option.{none, some}
-use Rattle.refusals.specs.Answer.{Answer, accepted, refused}
-use Rattle.timers.specs.declared.Call.{Call}
+use Rattle.refusals.specs.Answer.{accepted, refused}
 use Rattle.timers.specs.declared.Call.the-variants as C
 use Rattle.state.specs.declared.Handle.{Handle}
 use Rattle.timers.specs.Calls.{nothing, handle, counts, wake, polled}

@@ -3,7 +3,7 @@
 use mathlib.Core.Option.{Option, none, some}
 use mathlib.Core.Bool.{cond}
 use mathlib.Core.List.{List, [], _∷_, _++_}
-use Prim.Native.Nat.{ℕ, zero, suc, _+_, _*_, _/_, _%_, _^_}
+use Prim.Native.Nat.{ℕ, zero, suc, _+_, _*_, _/_, _%_}
 use Prim.Native.Char.{code}
 use Prim.Native.String.{String, [] as empty, _∷_ as more}
 use lib.Dec.{ltb}
@@ -74,9 +74,22 @@ unfoldable pub lineOf : Told → List ℕ → List ℕ
 lineOf (unread n) l = text "?" ++ (spaced (decimal n) ++ text "\n")
 lineOf (made o a w) l = decimal o ++ (answerText a w l ++ text "\n")
 
--- no line is longer: 67 bytes, and 22 for each handle
+-- how long the parts are at most: a number of 64 bits has 20 digits, one of 32 bits has 10; a number and a handle with their blanks; the
+-- reports of n handles; what was answered, with no more handles than there are timers; the whole line, newline and all
+abbrev pub numberRoom : ℕ
+numberRoom = 21
+
+abbrev pub handleRoom : ℕ
+handleRoom = 22
+
+abbrev pub reportRoom : ℕ → ℕ
+reportRoom n = 44 + n * handleRoom
+
+abbrev pub answerRoom : ℕ
+answerRoom = 2 + reportRoom cap
+
 abbrev pub room : ℕ
-room = 67 + cap * 22
+room = 20 + answerRoom + 1
 
 -- what writing a text into bytes answers and leaves: how long it is; the text, and then the bytes that were there
 pub record Written : Type 0 where

@@ -3,7 +3,8 @@
 use mathlib.Core.Path.{_≡_}
 use mathlib.Core.Bool.{Bool}
 use mathlib.Core.List.{List}
-use Prim.Native.Nat.{ℕ, _+_, _*_, _%_}
+use Prim.Native.Nat.{ℕ, _+_, _*_, _%_, _≤_}
+use lib.ListN.{length, take}
 use Rattle.state.specs.declared.Set.{Set}
 use Rattle.timers.specs.declared.Call.{Call}
 use Rattle.timers.specs.declared.Reply.{Reply}
@@ -26,8 +27,12 @@ Answers s c l r l′ = toldBy r l′ ≡ answerOf s c l
 abbrev pub Replays : Set → List ℕ → List ℕ → Answered → List ℕ → Type 0
 Replays s bytes l r l′ = toldBy r l′ ≡ replayOf s bytes l
 
-abbrev pub Writes : Line → List ℕ → List ℕ → ℕ → List ℕ → Type 0
-Writes k l out r out′ = record { count = r; bytes = out′ } ≡ writtenOf (lineOf (saidLine k) l) out
+-- r bytes of `out′` are the line, and the rest is as it was in `out`. The other two follow from that; with them a caller may lend
+-- `&out[..r]` without a proof
+pub record Writes (k : Line) (l out : List ℕ) (r : ℕ) (out′ : List ℕ) : Type 0 where
+  pub written : record { count = r; bytes = out′ } ≡ writtenOf (lineOf (saidLine k) l) out
+  pub within : r ≤ length out′
+  pub counted : r ≡ length (take r out′)
 
 -- and the functions inside
 

@@ -5,20 +5,16 @@ use crate::Wake;
 use timers::Reply;
 use word::Polled;
 ghost use Prim.Native.Nat.{_+_, _*_, _≤_, _<_};
-ghost use mathlib.Core.List.{[], _∷_};
-ghost use lib.ListN.{length, take};
+ghost use lib.ListN.{length};
 ghost use Rattle.heap.specs.Capacity.{cap};
-ghost use Rattle.state.specs.Handles.{handleOf};
-ghost use Rattle.timers.specs.Calls.{said};
-ghost use Rattle.records.specs.Answers.{saidWake, saidLine};
-ghost use Rattle.records.specs.Lines.{decimal, spaced, handleText, handlesText, wakeText, reportText, answerText, lineOf, room};
-ghost use Rattle.records.specs.Puts.{Puts, Least, Polls};
+ghost use Rattle.records.specs.Lines.{decimal, numberRoom, handleRoom, reportRoom, answerRoom, room};
+ghost use Rattle.records.specs.Puts.{PutsLine, PutsAnswer, PutsReport, PutsHandles, PutsHandle, PutsWake, PutsNumber, PutsDigits, PutsTwo, PutsOne, Least, Polls};
 
 // Puts a whole line from the start on.
 pub fn put_line(out: &mut [u8], line: Line, list: &[u64]) -> usize
     requires { ⌜ length (now list) ≤ cap ⌝ }
     requires { ⌜ room ≤ length (now out) ⌝ }
-    ensures { λ r. ⌜ Puts room (now (out .entry)) 0 (lineOf (saidLine line) (now (list .entry))) (now (out .exit)) r ⌝ }
+    ensures { λ r. ⌜ PutsLine line (now (list .entry)) (now (out .entry)) (now (out .exit)) r ⌝ }
 {
     match line {
         Line::Unread(why) => {
@@ -41,8 +37,8 @@ pub fn put_line(out: &mut [u8], line: Line, list: &[u64]) -> usize
 // Puts what a call answered: 0 and the values, or the refusal.
 fn put_answer(out: &mut [u8], at: usize, reply: Reply, wake: Wake, list: &[u64]) -> usize
     requires { ⌜ length (now list) ≤ cap ⌝ }
-    requires { ⌜ at + (46 + cap * 22) ≤ length (now out) ⌝ }
-    ensures { λ r. ⌜ Puts (46 + cap * 22) (now (out .entry)) at (answerText (said reply) (saidWake wake) (now (list .entry))) (now (out .exit)) r ⌝ }
+    requires { ⌜ at + answerRoom ≤ length (now out) ⌝ }
+    ensures { λ r. ⌜ PutsAnswer reply wake (now (list .entry)) (now (out .entry)) at (now (out .exit)) r ⌝ }
 {
     match reply {
         Reply::Added(handle) => {
@@ -82,8 +78,8 @@ fn put_answer(out: &mut [u8], at: usize, reply: Reply, wake: Wake, list: &[u64])
 // Puts what an advance or a turn reported: how many words of the list, their handles, and the next wake.
 fn put_report(out: &mut [u8], at: usize, list: &[u64], count: usize, wake: Wake) -> usize
     requires { ⌜ count ≤ length (now list) ⌝ }
-    requires { ⌜ at + (44 + count * 22) ≤ length (now out) ⌝ }
-    ensures { λ r. ⌜ Puts (44 + count * 22) (now (out .entry)) at (reportText (take count (now (list .entry))) (saidWake wake)) (now (out .exit)) r ⌝ }
+    requires { ⌜ at + reportRoom count ≤ length (now out) ⌝ }
+    ensures { λ r. ⌜ PutsReport (now (list .entry)) count wake (now (out .entry)) at (now (out .exit)) r ⌝ }
 {
     let a = put_number(out, at, count as u64);
     let b = put_handles(out, a, list, count);
@@ -93,8 +89,8 @@ fn put_report(out: &mut [u8], at: usize, list: &[u64], count: usize, wake: Wake)
 
 // Puts a blank and a next wake.
 fn put_wake(out: &mut [u8], at: usize, wake: Wake) -> usize
-    requires { ⌜ at + 21 ≤ length (now out) ⌝ }
-    ensures { λ r. ⌜ Puts 21 (now (out .entry)) at (spaced (wakeText (saidWake wake))) (now (out .exit)) r ⌝ }
+    requires { ⌜ at + numberRoom ≤ length (now out) ⌝ }
+    ensures { λ r. ⌜ PutsWake wake (now (out .entry)) at (now (out .exit)) r ⌝ }
 {
     match wake {
         Wake::At(t) => put_number(out, at, t),
@@ -105,8 +101,8 @@ fn put_wake(out: &mut [u8], at: usize, wake: Wake) -> usize
 // Puts the handles that the first words of a list name, each behind a blank.
 fn put_handles(out: &mut [u8], at: usize, list: &[u64], count: usize) -> usize
     requires { ⌜ count ≤ length (now list) ⌝ }
-    requires { ⌜ at + count * 22 ≤ length (now out) ⌝ }
-    ensures { λ r. ⌜ Puts (count * 22) (now (out .entry)) at (handlesText (take count (now (list .entry)))) (now (out .exit)) r ⌝ }
+    requires { ⌜ at + count * handleRoom ≤ length (now out) ⌝ }
+    ensures { λ r. ⌜ PutsHandles (now (list .entry)) count (now (out .entry)) at (now (out .exit)) r ⌝ }
 {
     let mut next = at;
     let mut i: usize = 0;
@@ -119,8 +115,8 @@ fn put_handles(out: &mut [u8], at: usize, list: &[u64], count: usize) -> usize
 
 // Puts a blank and the handle that a word names.
 fn put_handle(out: &mut [u8], at: usize, word: u64) -> usize
-    requires { ⌜ at + 22 ≤ length (now out) ⌝ }
-    ensures { λ r. ⌜ Puts 22 (now (out .entry)) at (spaced (handleText (handleOf word))) (now (out .exit)) r ⌝ }
+    requires { ⌜ at + handleRoom ≤ length (now out) ⌝ }
+    ensures { λ r. ⌜ PutsHandle word (now (out .entry)) at (now (out .exit)) r ⌝ }
 {
     let a = put(out, at, b' ');
     let b = put_digits(out, a, word & 0xffff_ffff);
@@ -130,8 +126,8 @@ fn put_handle(out: &mut [u8], at: usize, word: u64) -> usize
 
 // Puts a blank and a number.
 fn put_number(out: &mut [u8], at: usize, n: u64) -> usize
-    requires { ⌜ at + 21 ≤ length (now out) ⌝ }
-    ensures { λ r. ⌜ Puts 21 (now (out .entry)) at (spaced (decimal n)) (now (out .exit)) r ⌝ }
+    requires { ⌜ at + numberRoom ≤ length (now out) ⌝ }
+    ensures { λ r. ⌜ PutsNumber n (now (out .entry)) at (now (out .exit)) r ⌝ }
 {
     let a = put(out, at, b' ');
     put_digits(out, a, n)
@@ -140,7 +136,7 @@ fn put_number(out: &mut [u8], at: usize, n: u64) -> usize
 // Puts a number in decimal, where there is room for its digits.
 fn put_digits(out: &mut [u8], at: usize, n: u64) -> usize
     requires { ⌜ at + length (decimal n) ≤ length (now out) ⌝ }
-    ensures { λ r. ⌜ Puts 20 (now (out .entry)) at (decimal n) (now (out .exit)) r ⌝ }
+    ensures { λ r. ⌜ PutsDigits n (now (out .entry)) at (now (out .exit)) r ⌝ }
 {
     if n < 10 {
         return put(out, at, b'0' + (n as u8));
@@ -152,7 +148,7 @@ fn put_digits(out: &mut [u8], at: usize, n: u64) -> usize
 // Puts two bytes.
 fn put_two(out: &mut [u8], at: usize, a: u8, b: u8) -> usize
     requires { ⌜ at + 2 ≤ length (now out) ⌝ }
-    ensures { λ r. ⌜ Puts 2 (now (out .entry)) at (a ∷ b ∷ []) (now (out .exit)) r ⌝ }
+    ensures { λ r. ⌜ PutsTwo a b (now (out .entry)) at (now (out .exit)) r ⌝ }
 {
     let next = put(out, at, a);
     put(out, next, b)
@@ -161,7 +157,7 @@ fn put_two(out: &mut [u8], at: usize, a: u8, b: u8) -> usize
 // Puts one byte.
 fn put(out: &mut [u8], at: usize, b: u8) -> usize
     requires { ⌜ at < length (now out) ⌝ }
-    ensures { λ r. ⌜ Puts 1 (now (out .entry)) at (b ∷ []) (now (out .exit)) r ⌝ }
+    ensures { λ r. ⌜ PutsOne b (now (out .entry)) at (now (out .exit)) r ⌝ }
 {
     out[at] = b;
     at + 1

@@ -12,18 +12,6 @@ struct Pass {
     came: usize,
 }
 
-// Writes the first bytes of some, which are at most as many as there are.
-fn write_start(n: usize, bytes: &[u8]) {
-    if n <= bytes.len() {
-        io::write_all(STDOUT_FILENO, &bytes[0..n]);
-    }
-}
-
-// Prints a line of this length.
-fn print(n: usize, line: &[u8; LINE]) {
-    write_start(n, line);
-}
-
 // Answers one record with its line.
 fn answered(s: Set, bytes: [u8; 14]) -> Set {
     let mut list = [0u64; CAP];
@@ -31,7 +19,7 @@ fn answered(s: Set, bytes: [u8; 14]) -> Set {
     let told = a.line;
     let mut line = [0u8; LINE];
     let n = records::write_line(told, &list, &mut line);
-    print(n, &line);
+    io::write_all(STDOUT_FILENO, &line[..n]);
     a.set
 }
 

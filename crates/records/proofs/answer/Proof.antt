@@ -1,18 +1,17 @@
 -- The call is made as `step` says; the operation is the call's, and the wake that of the set after it.
 -- Assumes nothing.
 use mathlib.Core.Path.{_≡_, ap, _∙_}
-use mathlib.Core.Option.{Option}
 use mathlib.Core.List.{List}
 use Prim.Native.Nat.{ℕ}
 use borrow.Author.Needs.{needs}
 use denote.Ref.{now}
-use Rattle.refusals.specs.Answer.{Answer, Outcome}
+use Rattle.refusals.specs.Answer.{Outcome}
 use Rattle.state.specs.declared.Set.{Set}
 use Rattle.timers.specs.declared.Call.{Call}
 use Rattle.timers.specs.declared.After.{After}
 use Rattle.timers.specs.Calls.{Value, Lent, lent, step, said, toldWith}
 use Rattle.records.specs.declared.Wake.{Wake}
-use Rattle.records.specs.Answers.{Told, made, Answered, operationOf, wakeAfter, tells, answerOf, saidWake}
+use Rattle.records.specs.Answers.{made, Answered, operationOf, wakeAfter, tells, answerOf, saidWake}
 use Rattle.records.proofs.answer.Statement.{statement}
 use Rattle.records.proofs.answer.Tie as tie
 

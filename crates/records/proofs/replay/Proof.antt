@@ -1,9 +1,9 @@
 -- What the record decodes to says whether a call is made.
 -- Assumes nothing.
-use mathlib.Core.Path.{_≡_, sym, ap, _∙_}
+use mathlib.Core.Path.{ap, _∙_}
 use borrow.Author.Needs.{needs}
 use denote.Ref.{now}
-use Rattle.refusals.specs.Answer.{Answer, accepted}
+use Rattle.refusals.specs.Answer.{Answer}
 use Rattle.timers.specs.declared.Call.{Call}
 use Rattle.records.specs.Answers.{answerBy, replayOf}
 use Rattle.records.proofs.replay.Statement.{statement}

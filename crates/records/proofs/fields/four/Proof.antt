@@ -1,7 +1,6 @@
 -- Each shift makes room for one more byte.
 -- Assumes nothing.
-use mathlib.Core.Path.{_≡_, _∙_, ap}
-use Prim.Native.Nat.{ℕ, _+_, _*_, _%_, _^_, _<_}
+use Prim.Native.Nat.{_+_, _*_}
 use native.Mathlib.Omega.{arith}
 use Rattle.records.proofs.Bits.{one-more}
 use Rattle.records.proofs.fields.four.Statement.{statement}

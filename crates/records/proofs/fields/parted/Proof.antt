@@ -1,7 +1,5 @@
 -- Each field is made of its own bytes, and the bytes of a record are below 256.
 -- Assumes nothing.
-use Prim.Native.Nat.{_<_}
-use native.Mathlib.Omega.{arith}
 use borrow.Author.Needs.{needs}
 use lib.ListN.{getD}
 use mir.Syntax.{w8}

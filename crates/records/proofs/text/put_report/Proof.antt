@@ -1,7 +1,7 @@
 -- The count, the handles, a `w` and the wake, one behind the other.
 -- Assumes nothing.
-use mathlib.Core.Path.{_≡_, sym, ap}
-use mathlib.Core.List.{List, _++_}
+use mathlib.Core.Path.{sym, ap}
+use mathlib.Core.List.{_++_}
 use Prim.Native.Nat.{ℕ}
 use native.Mathlib.Omega.{arith}
 use borrow.Author.Needs.{needs}
