@@ -28,6 +28,14 @@ pub fn take() -> Notes {
     }
 }
 
+/// Hands out the notes into others, whose list is used again: nothing is allocated.
+pub fn take_into(notes: &mut Notes) {
+    notes.swaps = SWAPS.replace(0);
+    notes.pops = POPS.replace(0);
+    notes.woken.clear();
+    WOKEN.with_borrow_mut(|woken| mem::swap(woken, &mut notes.woken));
+}
+
 /// A swap of two entries of a heap.
 pub(crate) fn swap() {
     SWAPS.set(SWAPS.get() + 1);

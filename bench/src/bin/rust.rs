@@ -1,0 +1,5 @@
+//! The rounds on the Rust.
+
+fn main() {
+    bench::tell(bench::rounds::run);
+}
