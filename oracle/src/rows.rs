@@ -42,6 +42,12 @@ fn deadlines(line: &str) -> Vec<u64> {
         .collect()
 }
 
+/// The part of a line that stands behind some text, up to the next colon.
+fn part_after(line: &str, text: &str) -> String {
+    let (_, rest) = line.split_once(text).unwrap();
+    rest.split(':').next().unwrap().into()
+}
+
 /// The word of the first timer after a reset of one whose word was set.
 fn word_after_reset(word: u64) -> String {
     let line = last(&[
@@ -49,13 +55,7 @@ fn word_after_reset(word: u64) -> String {
         Record::on(op::SET_WORD, FIRST, word),
         Record::on(op::RESET, FIRST, 7),
     ]);
-    line.split("0:0:L:")
-        .nth(1)
-        .unwrap()
-        .split(':')
-        .next()
-        .unwrap()
-        .into()
+    part_after(&line, "0:0:L:")
 }
 
 /// What a tick with T 1,000 ms and period 100 ms makes the next deadline.
@@ -66,13 +66,7 @@ fn next_deadline(policy: Policy, reading: u64) -> String {
         Record::tick(FIRST, policy, 100 * MS, reading),
     ]);
     assert_eq!(answer(&line), "9 0 1000000000");
-    line.split("0:0:L:4:")
-        .nth(1)
-        .unwrap()
-        .split(':')
-        .next()
-        .unwrap()
-        .into()
+    part_after(&line, "0:0:L:4:")
 }
 
 #[test]
