@@ -1,7 +1,7 @@
 -- What a call leaves of what one handle is owed, on the ledger alone; and that a ledger once closed stays so.
 -- Assumes nothing.
 use mathlib.Core.Path.{_≡_, refl, sym, ap, _∙_}
-use mathlib.Core.Bool.{Bool, true, false, not, cond, _&&_, _||_}
+use mathlib.Core.Bool.{Bool, true, false, cond}
 use mathlib.Core.Option.{Option, none, some}
 use Prim.Native.Nat.{ℕ, _+_}
 use Rattle.theory.specs.Occurs.{has}
@@ -15,6 +15,7 @@ use Rattle.timers.specs.declared.Call.the-variants as C
 use Rattle.timers.specs.Values.{handleIn}
 use Rattle.promises.specs.Turns.{Line, Ledger, owed, begun, moved, ended, rung, cleared, at, given, Seen, noted, note}
 use Rattle.promises.specs.Timeouts.{aims}
+use Rattle.promises.proofs.Told.{rung-not}
 
 -- a line that owes as much, at the same time
 pub record Owes (l m : Line) : Type 0 where
@@ -27,11 +28,7 @@ same-owes l m e = record { still = ap owed e; same-due = ap (λ (x : Line). x .d
 
 -- a report of another handle changes nothing of what is owed
 rung-owes : (l : Line) (b : Bool) → b ≡ false → Owes l (rung b l)
-rung-owes l b e = record { still = ap (λ (c : Bool). l .live && not c) (ap (λ (c : Bool). l .reported || c) e ∙ or-false (l .reported)); same-due = refl }
-  where
-    or-false : (c : Bool) → c || false ≡ c
-    or-false true = refl
-    or-false false = refl
+rung-owes l b e = same-owes l (rung b l) (ap (λ (c : Bool). rung c l) e ∙ rung-not l)
 
 -- of a call that was refused nothing is noted
 if-accepted : (h : Handle) (b : Bool) (L M : Ledger) → (b ≡ true → Owes (L .line h) (M .line h)) → Owes (L .line h) (cond b M L .line h)

@@ -35,7 +35,7 @@ has-append h (k ∷ R) Q =
     ∙ sym (or-later (isYes (handle-discrete h k)) (has handle-discrete h R) (has handle-discrete h Q))
 
 -- a line that is not reported stays
-rung-not : (l : Line) → rung false l ≡ l
+pub rung-not : (l : Line) → rung false l ≡ l
 rung-not l = λ i. record { live = l .live; due = l .due; reported = or-false (l .reported) i; drained = l .drained; resets = l .resets }
 
 -- a report of nobody changes nothing
