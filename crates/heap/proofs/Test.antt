@@ -110,6 +110,15 @@ module _ (h : Heap) where
   unfolding orderOk
   order-of i e = not-true _ e
 
+  -- a heap of which the test says yes, however long its arrays are, has no more entries than the capacity
+  pub tested-len : consistentOf h ≡ true → h .len ≤ cap
+  tested-len e = ref-true ref-count (and-left _ _ (tested ∙ e)) .0
+
+  -- and the slot of each entry was made, and is full with the entry's position
+  pub tested-forth : consistentOf h ≡ true → (p : ℕ) → p < h .len → (slotAt h p < h .made) × (stateAt h (slotAt h p) ≡ Full (record { 0 = p }))
+  tested-forth e p l =
+      place-of p (ref-true ref-position (and-left _ _ (and-right (isNo (countFault h)) _ (tested ∙ e))) p (omega arith) (omega arith))
+
   -- the heap test says yes exactly where the heap is sound; how long the arrays are the code's types say
   pub sound-test : length (h .entries) ≡ cap → length (h .slots) ≡ cap → Ref (Sound h) (consistentOf h)
   sound-test n m =

@@ -26,10 +26,6 @@ pub mod InUseDrain
 pub mod InUseRings
 pub mod InUseGuards
 pub mod InUse
-pub mod Leads
-pub mod Rows
-pub mod RowsTold
-pub mod Table
 pub mod Keeping
 pub mod NoSecond
 pub mod Naming
@@ -48,3 +44,5 @@ pub mod EntryOfSettle
 pub mod EntryOfDrain
 pub mod EntryOfPop
 pub mod Written
+pub mod Marked
+pub mod Rooms

@@ -1,5 +1,6 @@
 -- The walks of a drain, an advance and a close, place by place: a relation of timers that looks at life and use number only, and
--- holds of what one turn makes of a timer, holds between each place before the walk and after it.
+-- holds of what one turn makes of a timer, holds between each place before the walk and after it. For a close the relation may look
+-- at the whole timer.
 -- Assumes nothing.
 use mathlib.Core.Path.{_≡_, refl, sym}
 use mathlib.Core.Bool.{Bool, true, false, cond}
@@ -26,16 +27,56 @@ pub record Order (R : Timer → Timer → Type 0) : Type 0 where
   pub blind : (t r : Timer) → r .life ≡ t .life → r .uses ≡ t .uses → R t r
   pub then : (a b c : Timer) → R a b → R b c → R a c
 
+-- a relation of timers that holds of a timer and itself, and of two changes in a row where it holds of each
+pub record Steps (R : Timer → Timer → Type 0) : Type 0 where
+  pub stays : (t : Timer) → R t t
+  pub then : (a b c : Timer) → R a b → R b c → R a c
+
+-- one that looks at life and use number only is such a one
+order-steps : (R : Timer → Timer → Type 0) → Order R → Steps R
+order-steps R o = record { stays = λ t. o .blind t t refl refl; then = o .then }
+
 -- the relation holds at every place of two sets
 abbrev pub Each : (Timer → Timer → Type 0) → Set → Set → Type 0
 Each R s r = (p : ℕ) → R (timerAt s p) (timerAt r p)
 
+module _ (R : Timer → Timer → Type 0) (o : Steps R) where
+  -- between a set and itself
+  unmoved : (s : Set) → Each R s s
+  unmoved s p = o .stays (timerAt s p)
+
+  -- where one timer is stored that is so related to the old one
+  put : (s : Set) (p : ℕ) (t : Timer) → R (timerAt s p) t → (x : ℕ) → R (timerAt s x) (getD (set (s .timers) p t) x noTimer)
+  put s p t e = store-rel (λ _ a b. R a b) (λ _ t. o .stays t) (s .timers) p t e
+
+  module _ (marks : (t : Timer) (w : Waiting) → R t (record { life = markedLife (t .life); waiting = w; held = Held.Nothing; uses = t .uses })) where
+    unlist-each : (k : ℕ) (s : Set) → Each R s (unlistFrom k s)
+    unfolding unlistFrom unlistedOf
+    unlist-each zero s = unmoved s
+    unlist-each (suc k) s = go (s .first) (λ p. unlist-each k (unlistedOf s p))
+      where
+        go : (f : First) → ((p : ℕ) → Each R (unlistedOf s p) (unlistFrom k (unlistedOf s p)))
+            → Each R s (listTurn s f (λ p. unlistFrom k (unlistedOf s p)))
+        go First.Nothing rest = unmoved s
+        go (First.At q) rest = λ p. o .then _ _ _ (put s (q .0) _ (marks (timerAt s (q .0)) No) p) (rest (q .0) p)
+
+    empty-each : (k : ℕ) (s : Set) → Each R s (emptyFrom k s)
+    unfolding emptyFrom poppedOf
+    empty-each zero s = unmoved s
+    empty-each (suc k) s = λ p.
+        o .then _ _ _ (put s (entryAt (s .heap) 0 .place .0) _ (marks _ _) p) (empty-each k (poppedOf s) p)
+
+    -- a close, by a relation that may look at the whole timer
+    pub closed-steps : (s : Set) → Each R s (closedOf s)
+    unfolding closedOf
+    closed-steps s = λ p. o .then _ _ _ (unlist-each cap s p) (empty-each (unlistFrom cap s .heap .len) (unlistFrom cap s) p)
+
 module _ (R : Timer → Timer → Type 0) (o : Order R) where
   same : (s : Set) → Each R s s
-  same s p = o .blind (timerAt s p) (timerAt s p) refl refl
+  same = unmoved R (order-steps R o)
 
   stored : (s : Set) (p : ℕ) (t : Timer) → R (timerAt s p) t → (x : ℕ) → R (timerAt s x) (getD (set (s .timers) p t) x noTimer)
-  stored s p t e = store-rel (λ _ a b. R a b) (λ _ t. o .blind t t refl refl) (s .timers) p t e
+  stored = put R (order-steps R o)
 
   -- a touch
   pub touched-each : (s : Set) (p : ℕ) (l : Life)
@@ -90,24 +131,7 @@ module _ (R : Timer → Timer → Type 0) (o : Order R) where
     unfolding advancedOf
     advanced-each s N l = ring-each (s .heap .len) (record { set = s; list = l; reported = 0; popped = 0 }) N
 
-  module _ (marks : (t : Timer) (w : Waiting) → R t (record { life = markedLife (t .life); waiting = w; held = Held.Nothing; uses = t .uses })) where
-    unlist-each : (k : ℕ) (s : Set) → Each R s (unlistFrom k s)
-    unfolding unlistFrom unlistedOf
-    unlist-each zero s = same s
-    unlist-each (suc k) s = go (s .first) (λ p. unlist-each k (unlistedOf s p))
-      where
-        go : (f : First) → ((p : ℕ) → Each R (unlistedOf s p) (unlistFrom k (unlistedOf s p)))
-            → Each R s (listTurn s f (λ p. unlistFrom k (unlistedOf s p)))
-        go First.Nothing rest = same s
-        go (First.At q) rest = λ p. o .then _ _ _ (stored s (q .0) _ (marks (timerAt s (q .0)) No) p) (rest (q .0) p)
-
-    empty-each : (k : ℕ) (s : Set) → Each R s (emptyFrom k s)
-    unfolding emptyFrom poppedOf
-    empty-each zero s = same s
-    empty-each (suc k) s = λ p.
-        o .then _ _ _ (stored s (entryAt (s .heap) 0 .place .0) _ (marks _ _) p) (empty-each k (poppedOf s) p)
-
-    -- a close
-    pub closed-each : (s : Set) → Each R s (closedOf s)
-    unfolding closedOf
-    closed-each s = λ p. o .then _ _ _ (unlist-each cap s p) (empty-each (unlistFrom cap s .heap .len) (unlistFrom cap s) p)
+  -- a close
+  pub closed-each : ((t : Timer) (w : Waiting) → R t (record { life = markedLife (t .life); waiting = w; held = Held.Nothing; uses = t .uses }))
+      → (s : Set) → Each R s (closedOf s)
+  closed-each = closed-steps R (order-steps R o)

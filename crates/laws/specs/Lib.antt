@@ -1,4 +1,3 @@
-pub mod Table
 pub mod Words
 pub mod Advanced
 pub mod ByHandle
@@ -6,3 +5,4 @@ pub mod Past
 pub mod InUse
 pub mod Reports
 pub mod EntryOf
+pub mod Rooms

@@ -37,11 +37,12 @@ use Rattle.timers.specs.Values.{Value, nothing, handle}
 use Rattle.timers.specs.Calls.{Lent, gives, with-list, guarded, liveAt, addOf, resetOf, drainOf, advanceOf, step}
 use Rattle.laws.specs.Words.{Fit}
 use Rattle.laws.proofs.StepSound.{after-fit, never-unsound}
-use Rattle.promises.specs.Turns.{Line, Ledger, blank, begun, moved, seen, note, owed, Exact, Run, next, from, run, Bounded, Accepted}
+use Rattle.promises.specs.Turns.{every, Line, Ledger, blank, begun, moved, seen, note, owed, Exact, Run, next, from, run, Bounded, Accepted}
 use Rattle.promises.specs.Engine.{handed, ours}
 use Rattle.promises.specs.Bound.{words, its, resetting, reporting}
 use Rattle.promises.proofs.Runs.{run-good}
-use Rattle.promises.proofs.Engine.{meets}
+use Rattle.promises.proofs.Engine.{moment}
+use Rattle.promises.proofs.Meeting.{advance-accepted}
 
 -- THE SETS
 
@@ -209,11 +210,11 @@ within n b = (λ h. omega arith, (first-low, bounded-more n 0 (omega arith) (run
 
 -- an advance is accepted, however many there were
 pub too-many-accepted : (n : ℕ) → Accepted ours (run ours (resetting n)) (C.Advance 10) words
-too-many-accepted n = meets .before-close (resetting n) (reached n .still-open) .takes 10 words (omega arith) .1
+too-many-accepted n = advance-accepted ours every (run ours (resetting n)) _ (moment (resetting n)) (reached n .still-open) words (omega arith) 10 refl
 
 -- with fewer than 2^30 resets its reports are exact
 pub few-enough : (n : ℕ) → n < 2 ^ 30 → Exact (run ours (resetting n) .ledger) (λ x. owed x && x .drained) 10 (reporting n)
-few-enough n b = meets .before-close (resetting n) (reached n .still-open) .advances 10 words (within n b) (too-many-accepted n)
+few-enough n b = moment (resetting n) .advances 10 words refl (within n b) (too-many-accepted n)
 
 -- after 2^30 resets the word is 0 again, as in the old entry
 come-back : (n : ℕ) → n ≡ 2 ^ 30 → run ours (resetting n) .state ≡ awaiting 0

@@ -1,42 +1,49 @@
--- One moment: what an accepted turn and an accepted advance report, that both are accepted where the list has room, the next wake, and
--- that refusal 1 does not come.
+-- One moment: what an accepted turn and an accepted advance report, that a lent list stays but for its reports, and the next wake where
+-- all is settled.
 -- Assumes nothing.
 use mathlib.Core.Path.{_≡_, refl, sym, ap, subst, _∙_}
-use mathlib.Core.Bool.{Bool, true, false, not, _&&_}
+use mathlib.Core.Bool.{Bool, true, false, not, _&&_, _||_}
 use mathlib.Core.List.{List}
-use Prim.Native.Nat.{ℕ, _≤_, _<_}
+use Prim.Native.Nat.{ℕ, _+_, _-_, _≤_, _<_}
 use native.Mathlib.Omega.{arith}
 use lib.Dec.{leb}
-use lib.ListN.{length}
-use borrow.Author.Tests.{le-leb}
+use lib.ListN.{length, drop, length-drop}
+use lib.Seq.{getD-drop, ext-getD}
 use Rattle.theory.specs.Tests.{bit}
 use Rattle.theory.specs.Weights.{Rising}
-use Rattle.theory.proofs.Tests.{true-false}
-use Rattle.refusals.specs.Answer.{accepted, refused, isAccepted}
+use Rattle.theory.proofs.Tests.{true-false, and-left, and-right}
+use Rattle.refusals.specs.Answer.{isAccepted}
 use Rattle.heap.specs.Capacity.{cap}
 use Rattle.heap.specs.Calls.{peekSound}
+use Rattle.state.specs.declared.Life.{Life}
+use Rattle.state.specs.declared.Life.the-variants.{Free, Live, Cancelled, Retired}
 use Rattle.state.specs.declared.Set.{Set}
 use Rattle.state.specs.declared.Handle.{Handle}
-use Rattle.state.proofs.Test.{sound-tells}
+use Rattle.state.specs.State.{timerAt, isWaiting}
 use Rattle.moves.specs.Rules.{drainedOf, Ring, advancedOf}
 use Rattle.timers.specs.declared.Call.{Call}
 use Rattle.timers.specs.declared.Call.the-variants as C
-use Rattle.timers.specs.Values.{wake}
-use Rattle.timers.specs.Calls.{rang, guarded, advanceOf, turnOf, nextWakeOf, wakeBy, step}
-use Rattle.laws.specs.Table.{unsound, rowb, heldIn}
+use Rattle.timers.specs.Values.{reportsIn}
+use Rattle.timers.specs.Calls.{timingOf, rang, wakeBy, step}
 use Rattle.laws.specs.Words.{Fit}
 use Rattle.laws.specs.EntryOf.{waiting}
+use Rattle.laws.specs.Advanced.{Rest}
+use Rattle.laws.specs.Rooms.{isCancelled}
+use Rattle.laws.proofs.Naming.{names-same, live-in-range}
+use Rattle.laws.proofs.ByHandle.{handleAt}
 use Rattle.laws.proofs.CallCases.{LetIn, advance-by, turn-by}
 use Rattle.laws.proofs.DrainSound.{drained-sound}
 use Rattle.laws.proofs.AdvancedSound.{fromStart, advanced-sound}
+use Rattle.laws.proofs.AdvancedList.{advanced-rest}
 use Rattle.laws.proofs.EntryOfPop.{advanced-waiting}
-use Rattle.laws.proofs.Table.{refused-row}
-use Rattle.promises.specs.Turns.{Line, Ledger, owed, seen, note, Exact, Least, Run, Accepted}
+use Rattle.promises.specs.Turns.{Line, Ledger, owed, settled, seen, Exact, Least, Run, Accepted}
 use Rattle.promises.specs.Engine.{handed, ours}
 use Rattle.promises.proofs.Told.{told, swept}
 use Rattle.promises.proofs.Tracks.{Tracks}
+use Rattle.promises.proofs.TracksTouch.{living}
+use Rattle.promises.proofs.TracksPlaces.{leaving-in, leaves-same}
 use Rattle.promises.proofs.TracksDrain.{none-waiting, drain-tracks}
-use Rattle.promises.proofs.TracksHead.{ready, Safe}
+use Rattle.promises.proofs.TracksHead.{ready, Safe, not-true}
 use Rattle.promises.proofs.TracksRing.{Rang, called}
 use Rattle.promises.proofs.TracksSteps.{Low, advanced-rang, rangOut, now}
 use Rattle.promises.proofs.Waking.{wake-least}
@@ -53,6 +60,24 @@ exact-rang : (B : Type 0) (L M : Ledger) (passes : Line → Bool) (N : ℕ) (s :
     → Exact M passes N (seen (handed (rang q)))
 exact-rang B L M passes N s l q k safe same rising =
     rw (k .written) (record { each-once = λ h. k .exact safe h ∙ ap bit (same h); in-order = rising; counted = omega (arith, k .counted) })
+
+-- past its reports an advance leaves the list as it was
+rest-kept : (s : Set) (l : List ℕ) (r : Ring) → Rest s l r → drop (r .reported) (r .list) ≡ drop (r .reported) l
+rest-kept s l r k =
+    ext-getD 0 (drop (r .reported) (r .list)) (drop (r .reported) l)
+    (length-drop (r .reported) (r .list) ∙ ap (λ (n : ℕ). n - r .reported) (k .same-length) ∙ sym (length-drop (r .reported) l))
+    (λ i _. getD-drop (r .reported) (r .list) i 0 ∙ k .untouched (r .reported + i) (omega arith) ∙ sym (getD-drop (r .reported) l i 0))
+
+-- what is live and settled is drained, and does not leave
+live-reached : (l : Line) → settled l ≡ true → l .live ≡ true → l .drained ≡ true
+live-reached l s e = rw e at (and-right (not (l .leaving)) (not (l .live) || l .drained) s)
+
+stays : (l : Line) → settled l ≡ true → l .leaving ≡ true → ⊥
+stays l s e = true-false (and-left (not (l .leaving)) (not (l .live) || l .drained) s) (ap not e)
+
+-- and so is what is owed and settled
+reached : (l : Line) → settled l ≡ true → owed l ≡ true → l .drained ≡ true
+reached l s o = live-reached l s (and-left (l .live) (not (l .reported)) o)
 
 module _ (B : Type 0) (r : Run ours) (g : Good B r) (low : B → Low (r .ledger)) where
   abbrev s : Set
@@ -96,53 +121,45 @@ module _ (B : Type 0) (r : Run ours) (g : Good B r) (low : B → Low (r .ledger)
       let k = advanced-rang B s L N l low (now B s L (g .fit) low (g .follows) a) (g .fit .sound) room in
       exact-rang B L L ready N s l (advancedOf s N l) k (λ _ _ _. b) (λ h. refl) (k .sorted (λ _ _ _. b)))
 
-  -- both are accepted where the list has room
-  pub takes-both : L .closed ≡ false → (N : ℕ) (l : List ℕ) → cap ≤ length l → Accepted ours r (C.Turn N) l × Accepted ours r (C.Advance N) l
-  unfolding step turnOf advanceOf guarded
-  takes-both c N l room =
-      let o = sound-tells s (g .fit .sound) in
-      let d : s .closed ≡ false = g .follows .closed-too ∙ c in
-      let m = le-leb cap (length l) room in
-      (rw (o, d, m) refl, rw (o, d, m) refl)
+  -- any call leaves the lent list as it was but for its reports
+  pub list-kept : (c : Call) (l : List ℕ) → let o = step s c l in drop (reportsIn (o .answer)) (o .state .list) ≡ drop (reportsIn (o .answer)) l
+  unfolding step
+  list-kept (C.Add d) l = refl
+  list-kept (C.Reset h d) l = refl
+  list-kept (C.Cancel h) l = refl
+  list-kept C.Drain l = refl
+  list-kept (C.Advance N) l =
+      advance-by (λ o. drop (reportsIn (o .answer)) (o .state .list) ≡ drop (reportsIn (o .answer)) l) s l (λ n. refl) N
+      (λ a room. rest-kept s l (advancedOf s N l) (advanced-rest s N l (g .fit .sound)))
+  list-kept (C.Turn N) l =
+      turn-by (λ o. drop (reportsIn (o .answer)) (o .state .list) ≡ drop (reportsIn (o .answer)) l) s l (λ n. refl) N
+      (λ a room. rest-kept (drainedOf s) l (advancedOf (drainedOf s) N l)
+      (advanced-rest (drainedOf s) N l (drained-sound s (g .fit .sound) (a .still-open) (g .fit .words))))
+  list-kept C.NextWake l = refl
+  list-kept (C.Poll h) l = refl
+  list-kept C.Close l = refl
+  list-kept (C.Tick h p period N) l = refl
+  list-kept (C.Restart h period N) l = refl
 
-  -- nobody waits after a turn
-  idle-after : LetIn s → (N : ℕ) (l : List ℕ) (x : ℕ) → x < cap → waiting (advancedOf (drainedOf s) N l .set) x ≡ false
-  idle-after a N l x b = advanced-waiting (drainedOf s) N l x ∙ idle-then a x b
+  -- where all is settled nobody waits: a live timer that waits is not drained, and a cancelled one is leaving
+  idle : L .closed ≡ false → ((h : Handle) → settled (L .line h) ≡ true) → (x : ℕ) → x < cap → waiting s x ≡ false
+  idle c all x b = go (timerAt s x .life) refl
+    where
+      h : Handle
+      h = handleAt s x
 
-  -- the next wake after an accepted turn
-  pub turn-wake : B → (N : ℕ) (l : List ℕ) → Accepted ours r (C.Turn N) l
-      → Least (note (C.Turn N) (seen (handed (step s (C.Turn N) l))) L) (wakeBy (peekSound (step s (C.Turn N) l .state .set .heap)))
-  unfolding step note
-  turn-wake b N l =
-      turn-by (λ o. isAccepted (o .answer) ≡ true → Least (note (C.Turn N) (seen (handed o)) L) (wakeBy (peekSound (o .state .set .heap)))) s l
-      (λ n y. true-false y refl) N
-      (λ a room _.
-      let k = drained-rang a N l room in
-      let q = advancedOf (drainedOf s) N l in
-      wake-least B (q .set) (told (rangOut q) (swept L))
-      (subst (λ (R : List Handle). Tracks B (q .set) (told R (swept L))) (sym (k .written)) (k .tracks))
-      (advanced-sound (drainedOf s) N l (drained-sound s (g .fit .sound) (a .still-open) (g .fit .words)))
-      (idle-after a N l) (λ h. refl) b)
+      go : (l : Life) → timerAt s x .life ≡ l → waiting s x ≡ false
+      go Free e = ap isWaiting (g .fit .sound .free-unused x b e .still)
+      go (Live w d) e =
+          let k = living B s L (g .follows .tracks c) (g .fit .sound) h (record { word = w; due = d })
+          (live-in-range s h b ∙ names-same (timerAt s x) (timerAt s x .uses) refl ∙ ap timingOf e) in
+          not-true (waiting s x) (sym (k .drained-is) ∙ live-reached (L .line h) (all h) (k .known))
+      go (Cancelled w) e =
+          absurd (stays (L .line h) (all h)
+          (g .follows .housed c .left h ∙ leaving-in s h b ∙ leaves-same (timerAt s x) (timerAt s x .uses) refl ∙ ap isCancelled e))
+      go Retired e = ap isWaiting (g .fit .sound .retired-unused x b e .still)
 
--- a next wake of a set that fits is answered
-pub wake-answered : (s : Set) → Fit s → (l : List ℕ) → step s C.NextWake l .answer ≡ accepted (wake (wakeBy (peekSound (s .heap))))
-unfolding step nextWakeOf guarded
-wake-answered s f l = rw (sound-tells s (f .sound)) refl
-
--- no call on a set that fits is refused with 1
-pub never-one : (s : Set) → Fit s → (c : Call) (l : List ℕ) → step s c l .answer ≡ refused 1 → ⊥
-unfolding heldIn
-never-one s f c l e = true-false (first-row c (refused-row s c l 1 e .holds)) (ap not (sound-tells s (f .sound)))
-  where
-    first-row : (c : Call) → rowb s c l 1 ≡ true → unsound s ≡ true
-    first-row (C.Add d) q = q
-    first-row (C.Reset h d) q = q
-    first-row (C.Cancel h) q = q
-    first-row C.Drain q = q
-    first-row (C.Advance N) q = q
-    first-row (C.Turn N) q = q
-    first-row C.NextWake q = q
-    first-row (C.Poll h) q = q
-    first-row C.Close q = q
-    first-row (C.Tick h p period N) q = q
-    first-row (C.Restart h period N) q = q
+  -- the next wake where all is settled
+  pub settled-wake : B → L .closed ≡ false → ((h : Handle) → settled (L .line h) ≡ true) → Least L (wakeBy (peekSound (s .heap)))
+  settled-wake b c all =
+      wake-least B s L (g .follows .tracks c) (g .fit .sound) (idle c all) (λ h y. reached (L .line h) (all h) y) b

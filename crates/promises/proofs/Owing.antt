@@ -13,7 +13,7 @@ use Rattle.state.specs.Handles.{handle-discrete}
 use Rattle.timers.specs.declared.Call.{Call}
 use Rattle.timers.specs.declared.Call.the-variants as C
 use Rattle.timers.specs.Values.{handleIn}
-use Rattle.promises.specs.Turns.{Line, Ledger, owed, begun, moved, ended, rung, cleared, at, given, Seen, noted, note}
+use Rattle.promises.specs.Turns.{Line, Ledger, owed, begun, moved, ended, rung, cleared, at, oneMore, added, Seen, noted, note}
 use Rattle.promises.specs.Timeouts.{aims}
 use Rattle.promises.proofs.Told.{rung-not}
 
@@ -39,9 +39,9 @@ if-accepted h false L M f = same-owes (L .line h) (L .line h) refl
 at-other : (h k : Handle) (f : Line → Line) (L : Ledger) → (h ≡ k → ⊥) → Owes (L .line h) (at k f L .line h)
 at-other h k f L n = same-owes (L .line h) (at k f L .line h) (upd-other handle-discrete (L .line) k (f (L .line k)) h n)
 
-given-other : (h : Handle) (o : Option Handle) (f : Line → Line) (L : Ledger) → (o ≡ some h → ⊥) → Owes (L .line h) (given o f L .line h)
-given-other h none f L n = same-owes (L .line h) (L .line h) refl
-given-other h (some k) f L n = at-other h k f L (λ e. n (ap some (sym e)))
+added-other : (h : Handle) (o : Option Handle) (d : ℕ) (L : Ledger) → (o ≡ some h → ⊥) → Owes (L .line h) (added o d L .line h)
+added-other h none d L n = same-owes (L .line h) (L .line h) refl
+added-other h (some k) d L n = at-other h k (begun d) L (λ e. n (ap some (sym e)))
 
 -- a call that neither gives, resets, cancels nor reports the handle leaves what it is owed
 pub note-owes : (h : Handle) (c : Call) (a : Seen) (L : Ledger) → ((d : ℕ) → c ≡ C.Add d → handleIn (a .answer) ≡ some h → ⊥)
@@ -50,7 +50,7 @@ unfolding note
 note-owes h c a L new aim unheard = if-accepted h (isAccepted (a .answer)) L (noted c a L) (λ y. go c new (aim y))
   where
     go : (c : Call) → ((d : ℕ) → c ≡ C.Add d → handleIn (a .answer) ≡ some h → ⊥) → (aims c ≡ some h → ⊥) → Owes (L .line h) (noted c a L .line h)
-    go (C.Add d) m n = given-other h (handleIn (a .answer)) (begun d) L (m d refl)
+    go (C.Add d) m n = added-other h (handleIn (a .answer)) d L (m d refl)
     go (C.Reset k d) m n = at-other h k (moved d) L (λ e. n (ap some (sym e)))
     go (C.Cancel k) m n = at-other h k ended L (λ e. n (ap some (sym e)))
     go C.Drain m n = record { still = refl; same-due = refl }
@@ -69,12 +69,12 @@ pub note-closed : (c : Call) (a : Seen) (L : Ledger) → L .closed ≡ true → 
 unfolding note
 note-closed c a L e = told (isAccepted (a .answer))
   where
-    kept : (o : Option Handle) (f : Line → Line) → given o f L .closed ≡ true
-    kept none f = e
-    kept (some h) f = e
+    kept : (o : Option Handle) (d : ℕ) → added o d L .closed ≡ true
+    kept none d = e
+    kept (some h) d = e
 
     go : (c : Call) → noted c a L .closed ≡ true
-    go (C.Add d) = kept (handleIn (a .answer)) (begun d)
+    go (C.Add d) = kept (handleIn (a .answer)) d
     go (C.Reset k d) = e
     go (C.Cancel k) = e
     go C.Drain = e

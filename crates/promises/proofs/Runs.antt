@@ -6,7 +6,7 @@ use mathlib.Core.List.{List, [], _∷_}
 use Prim.Native.Nat.{ℕ}
 use native.Mathlib.Omega.{arith}
 use borrow.Author.Tests.{le-ltb}
-use Rattle.theory.proofs.Tests.{by-ref, ref-lt}
+use Rattle.theory.proofs.Tests.{by-ref, ref-lt, true-false}
 use Rattle.heap.specs.Capacity.{cap}
 use Rattle.state.specs.declared.Set.{Set}
 use Rattle.state.specs.declared.Handle.{Handle}
@@ -20,6 +20,7 @@ use Rattle.laws.proofs.StepSound.{after-fit, fresh-fit}
 use Rattle.promises.specs.Turns.{Ledger, Run, next, from, run, Bounded}
 use Rattle.promises.specs.Engine.{ours}
 use Rattle.promises.proofs.Tracks.{stands-under}
+use Rattle.promises.proofs.TracksPlaces.{fresh-housed}
 use Rattle.promises.proofs.TracksSteps.{Low, Follows, step-follows}
 
 -- the set of a moment fits, and is as its ledger says
@@ -29,7 +30,12 @@ pub record Good (B : Type 0) (r : Run ours) : Type 0 where
 
 -- a stronger premise will do
 follows-under : (B D : Type 0) → (D → B) → (s : Set) (L : Ledger) → Follows B s L → Follows D s L
-follows-under B D g s L f = record { closed-too = f .closed-too; tracks = λ c h. stands-under B D g (liveAt s h) _ _ (L .line h) (f .tracks c h) }
+follows-under B D g s L f = record {
+  closed-too = f .closed-too;
+  tracks = λ c h. stands-under B D g (liveAt s h) _ _ (L .line h) (f .tracks c h);
+  housed = f .housed;
+  gone = f .gone;
+}
 
 -- one call more
 pub next-good : (B : Type 0) (r : Run ours) → Good B r → (c : Call) (l : List ℕ) → Good (B × Low (r .ledger)) (next ours r c l)
@@ -71,7 +77,10 @@ fresh-dead h = by-ref (ref-lt (h .place .0) cap)
 -- at the beginning
 begin-good : Good (Unit {0}) (run ours [])
 unfolding from
-begin-good = record { fit = fresh-fit; follows = record { closed-too = refl; tracks = λ _ h. rw (fresh-dead h) refl } }
+begin-good = record {
+  fit = fresh-fit;
+  follows = record { closed-too = refl; tracks = λ _ h. rw (fresh-dead h) refl; housed = λ _. fresh-housed; gone = λ e. true-false e refl };
+}
 
 -- after any calls from fresh
 pub run-good : (cs : List (Call × List ℕ)) → Good (Unit {0} × Bounded ours (run ours []) cs) (run ours cs)

@@ -25,7 +25,8 @@ use Rattle.promises.specs.Timeouts.{LeftAlone, GoesOff}
 use Rattle.promises.proofs.Tracks.{Stands}
 use Rattle.promises.proofs.TracksSteps.{Low}
 use Rattle.promises.proofs.Runs.{Good, next-good, run-good}
-use Rattle.promises.proofs.Engine.{meets}
+use Rattle.promises.proofs.Engine.{moment}
+use Rattle.promises.proofs.Meeting.{from-append}
 use Rattle.promises.proofs.Owing.{Owes, same-owes, note-owes, note-closed}
 
 -- an answer that has a handle is that of an add
@@ -76,12 +77,6 @@ module _ (h : Handle) where
           k = note-owes h (x .0) (seen (ours .step (r .state) (x .0) (x .1))) (r .ledger)
               (λ d q. subst (λ (c : Call). handleIn (step (r .state) c (x .1) .answer) ≡ some h → ⊥) (sym q) (not-given B r g now y d (x .1))) (a .0) e
 
--- calls, and then more calls
-from-append : (cs ds : List (Call × List ℕ)) (r : Run ours) → from ours r (cs ++ ds) ≡ from ours (from ours r cs) ds
-unfolding from
-from-append [] ds r = refl
-from-append (c ∷ cs) ds r = from-append cs ds (next ours r (c .0) (c .1))
-
 -- after any calls cs a timer is owed; calls ds leave it alone; then an accepted turn is made whose reading is at or past its deadline.
 -- One of the calls ds has reported it, or this turn does, once
 pub timeout-comes : (cs ds : List (Call × List ℕ)) (h : Handle) (N : ℕ) (l : List ℕ) → run ours (cs ++ ds) .ledger .closed ≡ false
@@ -92,10 +87,10 @@ unfolding from
 timeout-comes cs ds h N l c y a late ok =
     let r = run ours cs in
     let q = run ours (cs ++ ds) in
-    let z : q ≡ from ours r ds = from-append cs ds (run ours []) in
+    let z : q ≡ from ours r ds = from-append ours cs ds (run ours []) in
     ⊎-elim inl
     (λ k.
     let o : Owes (r .ledger .line h) (q .ledger .line h) = subst (λ (x : Run ours). Owes (r .ledger .line h) (x .ledger .line h)) (sym z) k in
-    inr (meets .before-close (cs ++ ds) c .turns N l ok .each-once h
+    inr (moment (cs ++ ds) .turns N l refl ok .each-once h
     ∙ rw (o .still ∙ y, o .same-due, le-leb (r .ledger .line h .due) N late) refl))
     (left-alone h ds _ r (run-good cs) (subst (λ (x : Run ours). x .ledger .closed ≡ false) z c) y a)

@@ -36,12 +36,12 @@ has-append h (k ∷ R) Q =
 
 -- a line that is not reported stays
 pub rung-not : (l : Line) → rung false l ≡ l
-rung-not l = λ i. record { live = l .live; due = l .due; reported = or-false (l .reported) i; drained = l .drained; resets = l .resets }
+rung-not l = λ i. record { live = l .live; due = l .due; reported = or-false (l .reported) i; drained = l .drained; resets = l .resets; leaving = l .leaving }
 
 -- a report of nobody changes nothing
 pub told-none : (L : Ledger) → told [] L ≡ L
 unfolding has
-told-none L = λ i. record { line = fun-ext (λ h. rung-not (L .line h)) i; closed = L .closed }
+told-none L = λ i. record { line = fun-ext (λ h. rung-not (L .line h)) i; given = L .given; closed = L .closed }
 
 -- a report of another handle leaves the line
 pub told-other : (k h : Handle) (L : Ledger) → h ≢ k → told (k ∷ []) L .line h ≡ L .line h
@@ -54,10 +54,10 @@ told-same k L = ap (λ (b : Bool). rung b (L .line k)) (has-same handle-discrete
 
 -- two lists of reports, one after the other
 pub told-append : (R Q : List Handle) (L : Ledger) → told Q (told R L) ≡ told (R ++ Q) L
-told-append R Q L = λ i. record { line = fun-ext (λ h. one h) i; closed = L .closed }
+told-append R Q L = λ i. record { line = fun-ext (λ h. one h) i; given = L .given; closed = L .closed }
   where
     one : (h : Handle) → told Q (told R L) .line h ≡ told (R ++ Q) L .line h
     one h =
         let e = or-later (L .line h .reported) (has handle-discrete h R) (has handle-discrete h Q) in
-        (λ i. record { live = L .line h .live; due = L .line h .due; reported = e i; drained = L .line h .drained; resets = L .line h .resets })
+        (λ i. record { live = L .line h .live; due = L .line h .due; reported = e i; drained = L .line h .drained; resets = L .line h .resets; leaving = L .line h .leaving })
         ∙ ap (λ (b : Bool). rung b (L .line h)) (sym (has-append h R Q))

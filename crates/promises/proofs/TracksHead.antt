@@ -41,7 +41,7 @@ pub record Entered (s : Set) (h : Handle) (l : Line) : Type 0 where
   pub on-time : it .at ≡ l .due
 
 -- what is false is not true of a number of tests
-not-true : (b : Bool) → not b ≡ true → b ≡ false
+pub not-true : (b : Bool) → not b ≡ true → b ≡ false
 not-true true e = true-false refl (sym e)
 not-true false e = refl
 

@@ -1,14 +1,15 @@
--- The useless engines do not meet the statement: a short trace refutes each. Where a turn or an advance is wrong, it reports a handle
--- no time where the ledger asks for one, or the other way round.
+-- The useless engines do not meet the statement: a short trace refutes each. Where an answer is wrong, it stands before the one that it
+-- must be; where a turn or an advance is wrong, it reports a handle no time where the ledger asks for one, or the other way round.
 -- Assumes nothing.
 use mathlib.Core.Path.{_≡_, refl, sym, ap, _∙_}
-use mathlib.Core.Bool.{true}
+use mathlib.Core.Bool.{true, false}
 use mathlib.Core.Option.{Option, none, some}
 use mathlib.Core.List.{List, [], _∷_}
 use Prim.Native.Nat.{ℕ, _<_, _^_}
 use native.Mathlib.Omega.{arith}
 use native.Mathlib.Decide.{ℕ-discrete}
-use lib.ListN.{replicate}
+use lib.ListN.{length, replicate}
+use borrow.Author.Tests.{eq-eqb}
 use Rattle.theory.specs.Tests.{bit}
 use Rattle.theory.specs.Counting.{count}
 use Rattle.theory.specs.Chain.{faultAt}
@@ -16,22 +17,24 @@ use Rattle.theory.specs.First.{firstBad}
 use Rattle.theory.specs.Update.{upd}
 use Rattle.theory.specs.Occurs as Occurs
 use Rattle.theory.proofs.Update.{upd-all}
-use Rattle.refusals.specs.Answer.{accepted}
+use Rattle.refusals.specs.Answer.{Answer, accepted, refused}
 use Rattle.heap.specs.Capacity.{cap}
 use Rattle.heap.specs.Rules.{putAt, upFrom, takenOf, addedOf, pushedOf, vacatedOf, filledOf, removedOf}
-use Rattle.heap.specs.Faults.{fullAt, emptyAt, nextAt, countOk, countFault, positionFault, orderFault, chainFault, faultOf}
+use Rattle.heap.specs.Faults.{fullAt, emptyAt, nextAt, countOk, positionOk, countFault, positionFault, orderFault, chainFault, faultOf}
 use Rattle.heap.specs.Calls.{pushSound, removeSound, popSound}
+use Rattle.interval.specs.declared.Policy.the-variants.{Burst}
 use Rattle.state.specs.Faults as State
 use Rattle.state.specs.declared.Handle.{Handle}
 use Rattle.state.specs.Handles.{handle-discrete}
-use Rattle.moves.specs.Rules.{touchedOf, taken, lowestFree, settledOf, drainFrom, dueBy, rungOf, ringFrom, advancedOf}
+use Rattle.moves.specs.Rules.{touchedOf, taken, lowestFree, settledOf, drainFrom, dueBy, rungOf, ringFrom, advancedOf, unlistFrom, closedOf}
 use Rattle.timers.specs.declared.Call.{Call}
 use Rattle.timers.specs.declared.Call.the-variants as C
-use Rattle.timers.specs.Values.{wake}
+use Rattle.timers.specs.Values.{Value, nothing, handle, counts, wake, polled, time}
 use Rattle.timers.specs.Calls as Set
-use Rattle.promises.specs.Bench.{_with-use_}
-use Rattle.promises.specs.Turns.{Ledger, blank, begun, at, owed, note, Least, next, from, run, Bounded, Meets}
-use Rattle.promises.specs.Useless.{refusing, mute, stuck, undrained, hasty, idle, asleep}
+use Rattle.promises.specs.Bench.{_with-use_, sameNumbers, code}
+use Rattle.promises.specs.Turns.{Ledger, blank, begun, at, owed, note, takenIn, Least, next, from, run, Bounded, Meets, every}
+use Rattle.promises.proofs.Meeting.{wake-after-turn}
+use Rattle.promises.specs.Useless.{refusing, full, deaf, clogged, unclosed, nameless, repeating, reopened, freeing, pending, eager, idle, undrained, roomless, mute, stuck, heedless, asleep, dozing, restless, scribbling, hasty}
 
 -- a list of just enough room
 abbrev room : List ℕ
@@ -41,36 +44,113 @@ room = replicate cap 0
 differ : _≡_ {A = ℕ} 0 1 → ⊥
 differ e = omega arith
 
+-- numbers are the same as themselves, so two answers that are told apart by their numbers are not one
+same-self : (ns : List ℕ) → sameNumbers ns ns ≡ true
+same-self [] = refl
+same-self (n ∷ ns) = rw (eq-eqb n n refl, same-self ns)
+
+unlike : (a b : Answer Value) → sameNumbers (code a) (code b) ≡ false → a ≡ b → ⊥
+unlike a b n e = differ (ap bit (sym n ∙ ap (λ x. sameNumbers (code a) (code x)) (sym e) ∙ same-self (code a)))
+
 -- no next wake was answered, and 0:0 is owed
 no-wake : (L : Ledger) (t : Option ℕ) → accepted (wake none) ≡ accepted (wake t) → owed (L .line (0 with-use 0)) ≡ true → Least L t → ⊥
 no-wake L none e o f = differ (ap bit (sym (f (0 with-use 0)) ∙ o))
 no-wake L (some t) e o f = let z : _≡_ {A = ℕ} 0 1 = cc in differ z
 
--- a turn of the fresh engine, with room: it must be accepted, and is refused
-pub refusing-fails : Meets refusing → ⊥
+-- add 10: it must be given 0:0, and is refused
+pub refusing-fails : Meets refusing every → ⊥
+unfolding from takenIn firstBad
+refusing-fails m = unlike (refused 2) (accepted (handle (0 with-use 0))) refl (m [] refl .answers (C.Add 10) [] refl)
+
+-- add 10: it must be given 0:0, and is refused
+pub full-fails : Meets full every → ⊥
+unfolding from takenIn firstBad
+full-fails m = unlike (refused 4) (accepted (handle (0 with-use 0))) refl (m [] refl .answers (C.Add 10) [] refl)
+
+-- add 10, cancel 0:0: 0:0 is live, and the cancel is refused
+pub deaf-fails : Meets deaf every → ⊥
+unfolding note next from upd ℕ-discrete handle-discrete Set.step Set.guarded Set.addOf touchedOf taken lowestFree State.waitsAt State.listScan State.placeOk State.entryScan State.firstPlace State.placeScan State.faultOf State.soundOf faultOf countFault positionFault orderFault chainFault countOk firstBad faultAt count
+deaf-fails m = unlike (refused 3) (accepted nothing) refl (m ((C.Add 10, []) ∷ []) refl .answers (C.Cancel (0 with-use 0)) [] refl)
+
+-- drain: it is refused, and nothing was closed
+pub clogged-fails : Meets clogged every → ⊥
 unfolding from
-refusing-fails m = differ (ap bit (m .before-close [] refl .takes 0 room (omega arith) .0))
+clogged-fails m = unlike (refused 2) (accepted nothing) refl (m [] refl .answers C.Drain [] refl)
+
+-- close: it is refused, and nothing was closed
+pub unclosed-fails : Meets unclosed every → ⊥
+unfolding from
+unclosed-fails m = unlike (refused 2) (accepted nothing) refl (m [] refl .answers C.Close [] refl)
+
+-- add 10: it must be given 0:0, and is given no handle
+pub nameless-fails : Meets nameless every → ⊥
+unfolding from takenIn Set.step Set.guarded Set.addOf taken lowestFree State.waitsAt State.listScan State.placeOk State.entryScan State.firstPlace State.placeScan State.faultOf State.soundOf faultOf countFault positionFault orderFault chainFault countOk firstBad faultAt count
+nameless-fails m = unlike (accepted nothing) (accepted (handle (0 with-use 0))) refl (m [] refl .answers (C.Add 10) [] refl)
+
+-- add 10, add 20: the second must be given 1:0, and is given 0:0
+pub repeating-fails : Meets repeating every → ⊥
+unfolding note next from upd ℕ-discrete handle-discrete takenIn Set.step Set.guarded Set.addOf touchedOf taken lowestFree State.waitsAt State.afterAt State.listScan State.placeOk State.entryScan State.firstPlace State.placeScan State.faultOf State.soundOf faultOf countFault positionFault orderFault chainFault countOk firstBad faultAt count
+repeating-fails m =
+    unlike (accepted (handle (0 with-use 0))) (accepted (handle (1 with-use 0))) refl
+    (m ((C.Add 10, []) ∷ []) refl .answers (C.Add 20) [] refl)
+
+-- close, add 10: it must be refused with 2, and is given 0:0
+pub reopened-fails : Meets reopened every → ⊥
+unfolding note next from Set.step Set.guarded Set.addOf taken lowestFree State.waitsAt State.listScan State.placeOk State.entryScan State.firstPlace State.placeScan State.faultOf State.soundOf faultOf countFault positionFault orderFault chainFault countOk firstBad faultAt count Set.closeOf unlistFrom closedOf
+reopened-fails m = unlike (accepted (handle (0 with-use 0))) (refused 2) refl (m ((C.Close, []) ∷ []) refl .answers (C.Add 10) [] refl)
+
+-- add 10, cancel 0:0, add 20: it must be given 1:0, since 0:0 was not drained, and is given 0:1
+pub freeing-fails : Meets freeing every → ⊥
+unfolding note next from upd ℕ-discrete handle-discrete takenIn Set.step Set.guarded Set.addOf touchedOf taken lowestFree State.waitsAt State.afterAt State.listScan State.placeOk State.entryScan State.firstPlace State.placeScan State.faultOf State.soundOf faultOf countFault positionFault orderFault chainFault countOk firstBad faultAt count Set.cancelOf Set.drainOf Set.liveAt settledOf drainFrom
+freeing-fails m =
+    unlike (accepted (handle (0 with-use 1))) (accepted (handle (1 with-use 0))) refl
+    (m ((C.Add 10, []) ∷ (C.Cancel (0 with-use 0), []) ∷ []) refl .answers (C.Add 20) [] refl)
+
+-- add 10, turn 10, poll 0:0: it must be fired, and is pending
+pub pending-fails : Meets pending every → ⊥
+unfolding note next from upd ℕ-discrete handle-discrete Occurs.has Set.step Set.guarded Set.addOf Set.turnOf Set.pollOf Set.liveAt touchedOf taken lowestFree settledOf drainFrom dueBy rungOf ringFrom advancedOf State.waitsAt State.afterAt State.listScan State.placeOk State.entryScan State.firstPlace State.placeScan State.faultOf State.soundOf pushSound removeSound popSound pushedOf removedOf filledOf vacatedOf addedOf takenOf upFrom putAt faultOf countFault positionFault orderFault chainFault countOk nextAt emptyAt fullAt firstBad faultAt count
+pending-fails m =
+    unlike (accepted (polled 0)) (accepted (polled 1)) refl
+    (m ((C.Add 10, room) ∷ (C.Turn 10, room) ∷ []) refl .answers (C.Poll (0 with-use 0)) [] refl)
+
+-- add 10, tick 0:0: it has not fired, so the tick must be refused with 10, and is taken
+pub eager-fails : Meets eager every → ⊥
+unfolding note next from upd ℕ-discrete handle-discrete Set.step Set.guarded Set.addOf touchedOf taken lowestFree State.waitsAt State.afterAt State.listScan State.placeOk State.entryScan State.firstPlace State.placeScan State.faultOf State.soundOf faultOf countFault positionFault orderFault chainFault countOk firstBad faultAt count Set.liveAt
+eager-fails m =
+    unlike (accepted (time 10)) (refused 10) refl
+    (m ((C.Add 10, []) ∷ []) refl .answers (C.Tick (0 with-use 0) Burst 5 7) [] refl)
+
+-- turn 0 with no words: it must be refused with 5, and is taken
+pub roomless-fails : Meets roomless every → ⊥
+unfolding from Set.step Set.guarded Set.turnOf drainFrom ringFrom advancedOf State.waitsAt State.listScan State.placeOk State.entryScan State.firstPlace State.placeScan State.faultOf State.soundOf faultOf countFault positionFault orderFault chainFault countOk firstBad faultAt count
+roomless-fails m = unlike (accepted (counts 0 0)) (refused 5) refl (m [] refl .answers (C.Turn 0) [] refl)
 
 -- add 10, turn 10: nothing is reported, though 0:0 is owed and due
-pub mute-fails : Meets mute → ⊥
+pub mute-fails : Meets mute every → ⊥
 unfolding note next from upd ℕ-discrete handle-discrete Occurs.times Set.step Set.guarded Set.addOf Set.turnOf touchedOf taken lowestFree State.waitsAt State.afterAt State.listScan State.placeOk State.entryScan State.firstPlace State.placeScan State.faultOf State.soundOf faultOf countFault positionFault orderFault chainFault countOk firstBad faultAt count
-mute-fails m = differ (m .before-close ((C.Add 10, room) ∷ []) refl .turns 10 room refl .each-once (0 with-use 0))
+mute-fails m = differ (m ((C.Add 10, room) ∷ []) refl .turns 10 room refl refl .each-once (0 with-use 0))
 
 -- add 10, turn 10, turn 10: the second turn reports 0:0 again, though it is no longer owed
-pub stuck-fails : Meets stuck → ⊥
+pub stuck-fails : Meets stuck every → ⊥
 unfolding note next from upd ℕ-discrete handle-discrete Occurs.has Occurs.times Set.step Set.guarded Set.addOf Set.turnOf touchedOf taken lowestFree settledOf drainFrom dueBy rungOf ringFrom advancedOf State.waitsAt State.afterAt State.listScan State.placeOk State.entryScan State.firstPlace State.placeScan State.faultOf State.soundOf pushSound removeSound popSound pushedOf removedOf filledOf vacatedOf addedOf takenOf upFrom putAt faultOf countFault positionFault orderFault chainFault countOk nextAt emptyAt fullAt firstBad faultAt count
 stuck-fails m =
-    differ (sym (m .before-close ((C.Add 10, room) ∷ (C.Turn 10, room) ∷ []) refl .turns 10 room refl .each-once (0 with-use 0)))
+    differ (sym (m ((C.Add 10, room) ∷ (C.Turn 10, room) ∷ []) refl .turns 10 room refl refl .each-once (0 with-use 0)))
+
+-- add 10, cancel 0:0, turn 10: 0:0 is reported, though it was cancelled
+pub heedless-fails : Meets heedless every → ⊥
+unfolding note next from upd ℕ-discrete handle-discrete Occurs.times Set.step Set.guarded Set.addOf Set.cancelOf Set.turnOf Set.liveAt touchedOf taken lowestFree settledOf drainFrom dueBy rungOf ringFrom advancedOf State.waitsAt State.afterAt State.listScan State.placeOk State.entryScan State.firstPlace State.placeScan State.faultOf State.soundOf pushSound pushedOf addedOf takenOf upFrom putAt faultOf countFault positionFault orderFault chainFault countOk firstBad faultAt count
+heedless-fails m =
+    differ (sym (m ((C.Add 10, room) ∷ (C.Cancel (0 with-use 0), room) ∷ []) refl .turns 10 room refl refl .each-once (0 with-use 0)))
 
 -- add 10, turn 10: 0:0 is not drained, so it is not reported, though it is owed and due
-pub undrained-fails : Meets undrained → ⊥
+pub undrained-fails : Meets undrained every → ⊥
 unfolding note next from upd ℕ-discrete handle-discrete Occurs.times Set.step Set.guarded Set.addOf Set.advanceOf touchedOf taken lowestFree ringFrom advancedOf State.waitsAt State.afterAt State.listScan State.placeOk State.entryScan State.firstPlace State.placeScan State.faultOf State.soundOf faultOf countFault positionFault orderFault chainFault countOk firstBad faultAt count
-undrained-fails m = differ (m .before-close ((C.Add 10, room) ∷ []) refl .turns 10 room refl .each-once (0 with-use 0))
+undrained-fails m = differ (m ((C.Add 10, room) ∷ []) refl .turns 10 room refl refl .each-once (0 with-use 0))
 
 -- add 10, turn 9: 0:0 is reported, though it is not due
-pub hasty-fails : Meets hasty → ⊥
+pub hasty-fails : Meets hasty every → ⊥
 unfolding note next from upd ℕ-discrete handle-discrete Occurs.times Set.step Set.guarded Set.addOf Set.turnOf touchedOf taken lowestFree settledOf drainFrom dueBy rungOf ringFrom advancedOf State.waitsAt State.afterAt State.listScan State.placeOk State.entryScan State.firstPlace State.placeScan State.faultOf State.soundOf pushSound pushedOf addedOf takenOf upFrom putAt faultOf countFault positionFault orderFault chainFault countOk firstBad faultAt count
-hasty-fails m = differ (sym (m .before-close ((C.Add 10, room) ∷ []) refl .turns 9 room refl .each-once (0 with-use 0)))
+hasty-fails m = differ (sym (m ((C.Add 10, room) ∷ []) refl .turns 9 room refl refl .each-once (0 with-use 0)))
 
 -- the premise: after an add there are no resets
 added-low : (h : Handle) → at (0 with-use 0) (begun 10) blank .line h .resets < 2 ^ 30
@@ -80,18 +160,39 @@ added-low =
     (λ h n. omega arith)
 
 -- add 10, drain, advance 10: nothing is reported, though 0:0 is owed, due and drained
-pub idle-fails : Meets idle → ⊥
-unfolding Bounded note next from upd ℕ-discrete handle-discrete Occurs.times Set.step Set.guarded Set.addOf Set.advanceOf touchedOf taken lowestFree ringFrom advancedOf State.waitsAt State.afterAt State.listScan State.placeOk State.entryScan State.firstPlace State.placeScan State.faultOf State.soundOf faultOf countFault positionFault orderFault chainFault countOk firstBad faultAt count
+pub idle-fails : Meets idle every → ⊥
+unfolding Bounded note next from upd ℕ-discrete handle-discrete Occurs.times Set.step Set.guarded Set.addOf Set.drainOf Set.advanceOf touchedOf taken lowestFree ringFrom advancedOf State.waitsAt State.afterAt State.listScan State.placeOk State.entryScan State.firstPlace State.placeScan State.faultOf State.soundOf faultOf countFault positionFault orderFault chainFault countOk firstBad faultAt count
 idle-fails m =
     let cs : List (Call × List ℕ) = (C.Add 10, room) ∷ (C.Drain, room) ∷ [] in
     let low : Bounded idle (run idle []) cs = ((λ h. omega arith), (added-low, (λ h. omega arith))) in
-    differ (m .before-close cs refl .advances 10 room low refl .each-once (0 with-use 0))
+    differ (m cs refl .advances 10 room refl low refl .each-once (0 with-use 0))
 
 -- add 10, turn 9: none is answered as the next wake, though 0:0 is owed
-pub asleep-fails : Meets asleep → ⊥
-unfolding Bounded note next from upd ℕ-discrete handle-discrete Occurs.has Set.step Set.guarded Set.addOf Set.turnOf touchedOf taken lowestFree settledOf drainFrom dueBy ringFrom advancedOf State.waitsAt State.afterAt State.listScan State.placeOk State.entryScan State.firstPlace State.placeScan State.faultOf State.soundOf pushSound pushedOf addedOf takenOf upFrom putAt faultOf countFault positionFault orderFault chainFault countOk firstBad faultAt count
+pub asleep-fails : Meets asleep every → ⊥
+unfolding Bounded note next from upd ℕ-discrete handle-discrete Occurs.has Set.step Set.guarded Set.addOf Set.turnOf Set.nextWakeOf touchedOf taken lowestFree settledOf drainFrom dueBy ringFrom advancedOf State.waitsAt State.afterAt State.listScan State.placeOk State.entryOk State.entryScan State.firstPlace State.placeScan State.faultOf State.soundOf pushSound pushedOf addedOf takenOf upFrom putAt faultOf countFault positionFault orderFault chainFault countOk positionOk emptyAt fullAt firstBad faultAt count
 asleep-fails m =
     let cs : List (Call × List ℕ) = (C.Add 10, room) ∷ [] in
     let low : Bounded asleep (run asleep []) cs = ((λ h. omega arith), added-low) in
-    let w = m .before-close cs refl .wakes 9 room [] low refl in
+    let w = wake-after-turn asleep every m cs refl refl low 9 room [] refl refl refl in
     no-wake (run asleep ((C.Add 10, room) ∷ (C.Turn 9, room) ∷ []) .ledger) (w .0) (w .1) refl (w .2)
+
+-- add 10, drain: none is answered as the next wake, though 0:0 is owed and drained
+pub dozing-fails : Meets dozing every → ⊥
+unfolding note next from upd ℕ-discrete handle-discrete Set.step Set.guarded Set.addOf Set.drainOf Set.nextWakeOf touchedOf taken lowestFree settledOf drainFrom State.waitsAt State.afterAt State.listScan State.placeOk State.entryOk State.entryScan State.firstPlace State.placeScan State.faultOf State.soundOf pushSound pushedOf addedOf takenOf upFrom putAt faultOf countFault positionFault orderFault chainFault countOk positionOk emptyAt fullAt firstBad faultAt count
+dozing-fails m =
+    let w = m ((C.Add 10, room) ∷ (C.Drain, room) ∷ []) refl .in-time (0 with-use 0) [] refl refl refl in
+    unlike (accepted (wake none)) (accepted (wake (some (w .0)))) refl (w .1)
+
+-- next wake of the fresh engine: 0 is answered, though nothing is owed
+pub restless-fails : Meets restless every → ⊥
+unfolding Bounded from Set.step Set.guarded Set.nextWakeOf State.waitsAt State.afterAt State.listScan State.placeOk State.entryScan State.firstPlace State.placeScan State.faultOf State.soundOf faultOf countFault positionFault orderFault chainFault countOk firstBad faultAt count
+restless-fails m = let w = m [] refl .wakes [] refl (λ h. omega arith) refl (λ h. refl) in early (w .0) (w .1) (w .2)
+  where
+    early : (t : Option ℕ) → accepted (wake (some 0)) ≡ accepted (wake t) → Least blank t → ⊥
+    early none e f = unlike (accepted (wake (some 0))) (accepted (wake none)) refl e
+    early (some t) e f = differ (ap bit (f .0 .1))
+
+-- a turn with a list of one word: it is refused, and the word is gone
+pub scribbling-fails : Meets scribbling every → ⊥
+unfolding from Set.step Set.guarded Set.turnOf State.waitsAt State.afterAt State.listScan State.placeOk State.entryScan State.firstPlace State.placeScan State.faultOf State.soundOf faultOf countFault positionFault orderFault chainFault countOk firstBad faultAt count
+scribbling-fails m = differ (ap length (m [] refl .lends (C.Turn 0) (7 ∷ []) refl))

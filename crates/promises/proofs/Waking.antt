@@ -1,4 +1,4 @@
--- Where nobody waits and every line has been drained, the next wake is the least deadline owed.
+-- Where nobody waits and what is owed has been drained, the next wake is the least deadline owed.
 -- Assumes nothing.
 use mathlib.Core.Path.{_≡_, refl, sym, ap, subst, _∙_}
 use mathlib.Core.Bool.{Bool, true, false, cond}
@@ -29,7 +29,7 @@ use Rattle.promises.proofs.Tracks.{Living, Stands, Tracks}
 use Rattle.promises.proofs.TracksHead.{ready-entry}
 
 module _ (B : Type 0) (s : Set) (L : Ledger) (tracks : Tracks B s L) (sound : Sound s) (idle : (x : ℕ) → x < cap → waiting s x ≡ false)
-    (calm : (h : Handle) → L .line h .drained ≡ true) where
+    (calm : (h : Handle) → owed (L .line h) ≡ true → L .line h .drained ≡ true) where
   -- an unused place has no entry
   unused-bare : (p : ℕ) → Unused (timerAt s p) → entryOf s p ≡ none
   unused-bare p u = ap (heldEntry (s .heap)) (u .bare)
@@ -37,7 +37,7 @@ module _ (B : Type 0) (s : Set) (L : Ledger) (tracks : Tracks B s L) (sound : So
   -- who is owed has an entry at its deadline
   owed-entry : (h : Handle) → owed (L .line h) ≡ true → (0 < s .heap .len) × (entryAt (s .heap) 0 .at ≤ L .line h .due)
   owed-entry h y =
-      let k = ready-entry B s L tracks h (rw (y, calm h) refl) in
+      let k = ready-entry B s L tracks h (rw (y, calm h y) refl) in
       let m = head-least s sound (h .place .0) (k .it) (k .in-range) (k .found) in
       (m .0, omega (arith, m .1, k .on-time))
 

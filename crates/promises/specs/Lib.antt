@@ -1,8 +1,11 @@
+pub mod Conditions
+pub mod Table
 pub mod Bench
 pub mod Turns
 pub mod Engine
 pub mod Tracing
 pub mod Traces
+pub mod Otherwise
 pub mod Useless
 pub mod Timeouts
 pub mod Bound

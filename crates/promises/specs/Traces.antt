@@ -22,7 +22,7 @@ stale-popped =
     ∷ C.Advance 10 answers accepted (counts 0 1)
     ∷ C.Drain answers accepted nothing
     ∷ [])
-    (is-owed (0 with-use 0) (record { live = true; due = 20; reported = false; drained = true; resets = 0 }) ∷ [])
+    (is-owed (0 with-use 0) (record { live = true; due = 20; reported = false; drained = true; resets = 0; leaving = false }) ∷ [])
     false (some 20) (some 20)
 
 -- BENCH ROW 13: three are reported, the earliest first; one of them is cancelled
@@ -38,9 +38,9 @@ bench-thirteen =
     ∷ C.Cancel (1 with-use 0) answers accepted nothing
     ∷ C.Poll (1 with-use 0) answers refused 3
     ∷ [])
-    (not-owed (0 with-use 0) (record { live = true; due = 10; reported = true; drained = true; resets = 0 })
-    ∷ not-owed (1 with-use 0) (record { live = false; due = 5; reported = true; drained = true; resets = 0 })
-    ∷ not-owed (2 with-use 0) (record { live = true; due = 10; reported = true; drained = true; resets = 0 })
+    (not-owed (0 with-use 0) (record { live = true; due = 10; reported = true; drained = true; resets = 0; leaving = false })
+    ∷ not-owed (1 with-use 0) (record { live = false; due = 5; reported = true; drained = true; resets = 0; leaving = true })
+    ∷ not-owed (2 with-use 0) (record { live = true; due = 10; reported = true; drained = true; resets = 0; leaving = false })
     ∷ [])
     false none none
 
@@ -55,7 +55,7 @@ stale-replaced =
     ∷ C.NextWake answers accepted (wake (some 20))
     ∷ C.Turn 20 answers accepted (counts 1 1) reporting (0 with-use 0 ∷ [])
     ∷ [])
-    (not-owed (0 with-use 0) (record { live = true; due = 20; reported = true; drained = true; resets = 0 }) ∷ [])
+    (not-owed (0 with-use 0) (record { live = true; due = 20; reported = true; drained = true; resets = 0; leaving = false }) ∷ [])
     false none none
 
 -- A CANCEL BETWEEN A DRAIN AND AN ADVANCE: both entries are popped, and the cancelled timer is not reported
@@ -68,8 +68,8 @@ cancelled-between =
     ∷ C.Cancel (0 with-use 0) answers accepted nothing
     ∷ C.Advance 20 answers accepted (counts 1 2) reporting (1 with-use 0 ∷ [])
     ∷ [])
-    (not-owed (0 with-use 0) (record { live = false; due = 10; reported = false; drained = true; resets = 0 })
-    ∷ not-owed (1 with-use 0) (record { live = true; due = 20; reported = true; drained = true; resets = 0 })
+    (not-owed (0 with-use 0) (record { live = false; due = 10; reported = false; drained = true; resets = 0; leaving = true })
+    ∷ not-owed (1 with-use 0) (record { live = true; due = 20; reported = true; drained = true; resets = 0; leaving = false })
     ∷ [])
     false none none
 
@@ -83,7 +83,7 @@ owed-again =
     ∷ C.Reset (0 with-use 0) 30 answers accepted nothing
     ∷ C.Poll (0 with-use 0) answers accepted (polled 0)
     ∷ [])
-    (is-owed (0 with-use 0) (record { live = true; due = 30; reported = false; drained = false; resets = 1 }) ∷ [])
+    (is-owed (0 with-use 0) (record { live = true; due = 30; reported = false; drained = false; resets = 1; leaving = false }) ∷ [])
     false (some 30) none
 
 -- THE SAME, and turns: it is reported a second time, at its new deadline and not before
@@ -98,7 +98,7 @@ reported-again =
     ∷ C.Turn 30 answers accepted (counts 1 1) reporting (0 with-use 0 ∷ [])
     ∷ C.Turn 30 answers accepted (counts 0 0)
     ∷ [])
-    (not-owed (0 with-use 0) (record { live = true; due = 30; reported = true; drained = true; resets = 0 }) ∷ [])
+    (not-owed (0 with-use 0) (record { live = true; due = 30; reported = true; drained = true; resets = 0; leaving = false }) ∷ [])
     false none none
 
 -- A TIE: of two equal deadlines both are reported. The heap gives the order: the drain is last in, first out, so 1:0 was pushed first
@@ -110,9 +110,9 @@ tie =
     ∷ C.Add 9 answers accepted (handle (2 with-use 0))
     ∷ C.Turn 8 answers accepted (counts 2 2) reporting (1 with-use 0 ∷ 0 with-use 0 ∷ [])
     ∷ [])
-    (not-owed (0 with-use 0) (record { live = true; due = 7; reported = true; drained = true; resets = 0 })
-    ∷ not-owed (1 with-use 0) (record { live = true; due = 7; reported = true; drained = true; resets = 0 })
-    ∷ is-owed (2 with-use 0) (record { live = true; due = 9; reported = false; drained = true; resets = 0 })
+    (not-owed (0 with-use 0) (record { live = true; due = 7; reported = true; drained = true; resets = 0; leaving = false })
+    ∷ not-owed (1 with-use 0) (record { live = true; due = 7; reported = true; drained = true; resets = 0; leaving = false })
+    ∷ is-owed (2 with-use 0) (record { live = true; due = 9; reported = false; drained = true; resets = 0; leaving = false })
     ∷ [])
     false (some 9) (some 9)
 
@@ -125,9 +125,9 @@ tie-of-three =
     ∷ C.Add 7 answers accepted (handle (2 with-use 0))
     ∷ C.Turn 7 answers accepted (counts 3 3) reporting (2 with-use 0 ∷ 0 with-use 0 ∷ 1 with-use 0 ∷ [])
     ∷ [])
-    (not-owed (0 with-use 0) (record { live = true; due = 7; reported = true; drained = true; resets = 0 })
-    ∷ not-owed (1 with-use 0) (record { live = true; due = 7; reported = true; drained = true; resets = 0 })
-    ∷ not-owed (2 with-use 0) (record { live = true; due = 7; reported = true; drained = true; resets = 0 })
+    (not-owed (0 with-use 0) (record { live = true; due = 7; reported = true; drained = true; resets = 0; leaving = false })
+    ∷ not-owed (1 with-use 0) (record { live = true; due = 7; reported = true; drained = true; resets = 0; leaving = false })
+    ∷ not-owed (2 with-use 0) (record { live = true; due = 7; reported = true; drained = true; resets = 0; leaving = false })
     ∷ [])
     false none none
 
@@ -143,9 +143,9 @@ reading-back =
     ∷ C.Turn 4 answers accepted (counts 0 0)
     ∷ C.Turn 5 answers accepted (counts 1 1) reporting (2 with-use 0 ∷ [])
     ∷ [])
-    (not-owed (0 with-use 0) (record { live = true; due = 10; reported = true; drained = true; resets = 0 })
-    ∷ is-owed (1 with-use 0) (record { live = true; due = 20; reported = false; drained = true; resets = 0 })
-    ∷ not-owed (2 with-use 0) (record { live = true; due = 5; reported = true; drained = true; resets = 0 })
+    (not-owed (0 with-use 0) (record { live = true; due = 10; reported = true; drained = true; resets = 0; leaving = false })
+    ∷ is-owed (1 with-use 0) (record { live = true; due = 20; reported = false; drained = true; resets = 0; leaving = false })
+    ∷ not-owed (2 with-use 0) (record { live = true; due = 5; reported = true; drained = true; resets = 0; leaving = false })
     ∷ [])
     false (some 20) (some 20)
 
@@ -162,9 +162,9 @@ place-reused =
     ∷ C.Poll (0 with-use 1) answers accepted (polled 0)
     ∷ C.Turn 20 answers accepted (counts 2 2) reporting (1 with-use 0 ∷ 0 with-use 1 ∷ [])
     ∷ [])
-    (not-owed (0 with-use 0) (record { live = false; due = 10; reported = false; drained = true; resets = 0 })
-    ∷ not-owed (1 with-use 0) (record { live = true; due = 15; reported = true; drained = true; resets = 0 })
-    ∷ not-owed (0 with-use 1) (record { live = true; due = 20; reported = true; drained = true; resets = 0 })
+    (not-owed (0 with-use 0) (record { live = false; due = 10; reported = false; drained = true; resets = 0; leaving = false })
+    ∷ not-owed (1 with-use 0) (record { live = true; due = 15; reported = true; drained = true; resets = 0; leaving = false })
+    ∷ not-owed (0 with-use 1) (record { live = true; due = 20; reported = true; drained = true; resets = 0; leaving = false })
     ∷ [])
     false none none
 
@@ -177,8 +177,8 @@ add-undrained =
     ∷ C.Add 5 answers accepted (handle (1 with-use 0))
     ∷ C.Advance 10 answers accepted (counts 1 1) reporting (0 with-use 0 ∷ [])
     ∷ [])
-    (not-owed (0 with-use 0) (record { live = true; due = 10; reported = true; drained = true; resets = 0 })
-    ∷ is-owed (1 with-use 0) (record { live = true; due = 5; reported = false; drained = false; resets = 0 })
+    (not-owed (0 with-use 0) (record { live = true; due = 10; reported = true; drained = true; resets = 0; leaving = false })
+    ∷ is-owed (1 with-use 0) (record { live = true; due = 5; reported = false; drained = false; resets = 0; leaving = false })
     ∷ [])
     false (some 5) none
 
@@ -193,7 +193,7 @@ reset-undrained =
     ∷ C.NextWake answers accepted (wake (some 10))
     ∷ C.Turn 7 answers accepted (counts 1 1) reporting (0 with-use 0 ∷ [])
     ∷ [])
-    (not-owed (0 with-use 0) (record { live = true; due = 5; reported = true; drained = true; resets = 0 }) ∷ [])
+    (not-owed (0 with-use 0) (record { live = true; due = 5; reported = true; drained = true; resets = 0; leaving = false }) ∷ [])
     false none none
 
 -- A LATE TICK UNDER DELAY: refused with 10 until the timer has fired; then it answers 1,000 ms and resets to 1,250 + 100 ms
@@ -206,7 +206,7 @@ tick-delay =
     ∷ C.Tick (0 with-use 0) Delay (ms 100) (ms 1250) answers accepted (time (ms 1000))
     ∷ C.Turn (ms 1349) answers accepted (counts 0 0)
     ∷ [])
-    (is-owed (0 with-use 0) (record { live = true; due = ms 1350; reported = false; drained = true; resets = 0 }) ∷ [])
+    (is-owed (0 with-use 0) (record { live = true; due = ms 1350; reported = false; drained = true; resets = 0; leaving = false }) ∷ [])
     false (some (ms 1350)) (some (ms 1350))
 
 -- LATE TICKS UNDER BURST: each resets to one period after the deadline it answers, which is due at once and reported again
@@ -219,7 +219,7 @@ tick-burst =
     ∷ C.Turn (ms 1250) answers accepted (counts 1 1) reporting (0 with-use 0 ∷ [])
     ∷ C.Tick (0 with-use 0) Burst (ms 100) (ms 1250) answers accepted (time (ms 1100))
     ∷ [])
-    (is-owed (0 with-use 0) (record { live = true; due = ms 1200; reported = false; drained = false; resets = 1 }) ∷ [])
+    (is-owed (0 with-use 0) (record { live = true; due = ms 1200; reported = false; drained = false; resets = 1; leaving = false }) ∷ [])
     false (some (ms 1200)) none
 
 -- TICKS UNDER SKIP: 5 ms past the deadline is not late, so one period more; then 1,250 ms is, and the next is 1,300 ms
@@ -233,7 +233,7 @@ tick-skip =
     ∷ C.Tick (0 with-use 0) Skip (ms 100) (ms 1250) answers accepted (time (ms 1000))
     ∷ C.Drain answers accepted nothing
     ∷ [])
-    (is-owed (0 with-use 0) (record { live = true; due = ms 1300; reported = false; drained = true; resets = 0 }) ∷ [])
+    (is-owed (0 with-use 0) (record { live = true; due = ms 1300; reported = false; drained = true; resets = 0; leaving = false }) ∷ [])
     false (some (ms 1300)) (some (ms 1300))
 
 -- INTERVAL RESETS: to the reading and the period, of a pending timer and of a fired one. A sum above 2^64-1 is refused with 6
@@ -247,7 +247,7 @@ restarted =
     ∷ C.Restart (0 with-use 0) 7 28 answers accepted nothing
     ∷ C.Restart (0 with-use 0) 1 18446744073709551615 answers refused 6
     ∷ [])
-    (is-owed (0 with-use 0) (record { live = true; due = 35; reported = false; drained = false; resets = 1 }) ∷ [])
+    (is-owed (0 with-use 0) (record { live = true; due = 35; reported = false; drained = false; resets = 1; leaving = false }) ∷ [])
     false (some 35) none
 
 -- RESETS ARE COUNTED, those of a tick and of an interval reset too, each of its own timer, since the last drain
@@ -263,8 +263,8 @@ resets-counted =
     ∷ C.Restart (0 with-use 0) 5 60 answers accepted nothing
     ∷ C.Reset (1 with-use 0) 45 answers accepted nothing
     ∷ [])
-    (is-owed (0 with-use 0) (record { live = true; due = 65; reported = false; drained = false; resets = 3 })
-    ∷ is-owed (1 with-use 0) (record { live = true; due = 45; reported = false; drained = false; resets = 1 })
+    (is-owed (0 with-use 0) (record { live = true; due = 65; reported = false; drained = false; resets = 3; leaving = false })
+    ∷ is-owed (1 with-use 0) (record { live = true; due = 45; reported = false; drained = false; resets = 1; leaving = false })
     ∷ [])
     false (some 45) (some 40)
 
@@ -281,9 +281,9 @@ refusals-between =
     ∷ C.Restart (1 with-use 0) 5 5 answers refused 3
     ∷ C.Tick (0 with-use 1) Burst 5 5 answers refused 3
     ∷ [])
-    (is-owed (0 with-use 0) (record { live = true; due = 10; reported = false; drained = false; resets = 0 })
-    ∷ not-owed (1 with-use 0) (record { live = false; due = 0; reported = false; drained = false; resets = 0 })
-    ∷ not-owed (0 with-use 1) (record { live = false; due = 0; reported = false; drained = false; resets = 0 })
+    (is-owed (0 with-use 0) (record { live = true; due = 10; reported = false; drained = false; resets = 0; leaving = false })
+    ∷ not-owed (1 with-use 0) (record { live = false; due = 0; reported = false; drained = false; resets = 0; leaving = false })
+    ∷ not-owed (0 with-use 1) (record { live = false; due = 0; reported = false; drained = false; resets = 0; leaving = false })
     ∷ [])
     false (some 10) none
 
@@ -295,7 +295,7 @@ refused-then-turn =
     ∷ C.Turn 10 answers refused 5 lending 63
     ∷ C.Turn 10 answers accepted (counts 1 1) reporting (0 with-use 0 ∷ [])
     ∷ [])
-    (not-owed (0 with-use 0) (record { live = true; due = 10; reported = true; drained = true; resets = 0 }) ∷ [])
+    (not-owed (0 with-use 0) (record { live = true; due = 10; reported = true; drained = true; resets = 0; leaving = false }) ∷ [])
     false none none
 
 -- DEADLINES AND READINGS at both ends of the range
@@ -309,8 +309,8 @@ ends-of-time =
     ∷ C.NextWake answers accepted (wake (some 18446744073709551615))
     ∷ C.Turn 18446744073709551615 answers accepted (counts 1 1) reporting (0 with-use 0 ∷ [])
     ∷ [])
-    (not-owed (0 with-use 0) (record { live = true; due = 18446744073709551615; reported = true; drained = true; resets = 0 })
-    ∷ not-owed (1 with-use 0) (record { live = true; due = 0; reported = true; drained = true; resets = 0 })
+    (not-owed (0 with-use 0) (record { live = true; due = 18446744073709551615; reported = true; drained = true; resets = 0; leaving = false })
+    ∷ not-owed (1 with-use 0) (record { live = true; due = 0; reported = true; drained = true; resets = 0; leaving = false })
     ∷ [])
     false none none
 
@@ -331,9 +331,9 @@ shut =
     ∷ C.Poll (1 with-use 0) answers accepted (polled 2)
     ∷ C.Poll (2 with-use 0) answers accepted (polled 2)
     ∷ [])
-    (not-owed (0 with-use 0) (record { live = true; due = 10; reported = true; drained = true; resets = 0 })
-    ∷ is-owed (1 with-use 0) (record { live = true; due = 20; reported = false; drained = true; resets = 0 })
-    ∷ is-owed (2 with-use 0) (record { live = true; due = 30; reported = false; drained = false; resets = 0 })
+    (not-owed (0 with-use 0) (record { live = true; due = 10; reported = true; drained = true; resets = 0; leaving = false })
+    ∷ is-owed (1 with-use 0) (record { live = true; due = 20; reported = false; drained = true; resets = 0; leaving = false })
+    ∷ is-owed (2 with-use 0) (record { live = true; due = 30; reported = false; drained = false; resets = 0; leaving = false })
     ∷ [])
     true (some 20) none
 

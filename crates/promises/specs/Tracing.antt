@@ -68,7 +68,7 @@ trace n cs ls b t w = record { number = n; calls = cs; lines = ls; closed = b; l
 
 -- lines, handles and times as numbers, to compare them by
 abbrev pub lineCode : Line → Bool → List ℕ
-lineCode l o = bit (l .live) ∷ l .due ∷ bit (l .reported) ∷ bit (l .drained) ∷ l .resets ∷ bit o ∷ []
+lineCode l o = bit (l .live) ∷ l .due ∷ bit (l .reported) ∷ bit (l .drained) ∷ l .resets ∷ bit (l .leaving) ∷ bit o ∷ []
 
 abbrev pub handlesCode : List Handle → List ℕ
 handlesCode [] = []

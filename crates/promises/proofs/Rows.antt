@@ -1,4 +1,4 @@
--- Each test that a call makes before it acts is a row of the table: a call refused there has that row's number, and else it is as
+-- Each test that a call on a set makes before it acts is a row of the table: a call refused there has that row's number, and else it is as
 -- what comes after says.
 -- Assumes nothing.
 use mathlib.Core.Path.{_≡_, refl, sym, ap, _∙_}
@@ -29,7 +29,8 @@ use Rattle.state.specs.State.{timerAt}
 use Rattle.state.specs.Faults.{soundOf}
 use Rattle.moves.specs.Rules.{taken, lowestFree}
 use Rattle.timers.specs.Calls.{Value, Lent, Timing, guarded, opened, alive, timingOf, liveAt, addedAt, roomy, ticked, tickedBy, restartedBy}
-use Rattle.laws.specs.Table.{unsound, lifeAt, notLive, dead, freeAt, full, short, wordIn, dueIn, notFired, isSkip, zeroPeriod, above, lateSum, tickSum, refusalIn}
+use Rattle.promises.specs.Conditions.{unsound, lifeAt, notLive, dead, freeAt, full, short, wordIn, dueIn, notFired, isSkip, zeroPeriod, above, lateSum, tickSum}
+use Rattle.promises.specs.Table.{refusalIn}
 
 -- 1: the test of soundness
 pub unsound-row : (s : Set) {S : Type 0} (k : S) (o : Outcome S Value) (rest : Option ℕ) → refusalIn (o .answer) ≡ rest
@@ -51,7 +52,7 @@ closed-row s k o rest e = go (s .closed)
     go false = e
 
 -- a test and its opposite
-at-least : (a b : ℕ) → leb b a ≡ not (ltb a b)
+pub at-least : (a b : ℕ) → leb b a ≡ not (ltb a b)
 at-least a b =
     by-ref (ref-lt a b) (λ h. false-ref (ref-le b a) (omega arith) ∙ sym (ap not (true-ref (ref-lt a b) h)))
     (λ h. true-ref (ref-le b a) (omega arith) ∙ sym (ap not (false-ref (ref-lt a b) h)))

@@ -10,7 +10,8 @@ use lib.Dec.{eqb}
 use borrow.Author.Tests.{eqb-true}
 use Rattle.theory.specs.Counting.{Mem}
 use Rattle.theory.proofs.Tests.{none-some, true-false, and-left, and-right}
-use Rattle.laws.specs.Table.{firstIn, Leads, heldIn}
+use Rattle.promises.specs.Conditions.{isIn}
+use Rattle.promises.specs.Table.{firstIn, Leads, heldIn}
 
 module _ (f : ℕ → Bool) where
   -- what is found leads
@@ -64,11 +65,7 @@ module _ (f : ℕ → Bool) where
   passes-none [] h = refl
   passes-none (m ∷ l) h = rw (h m (inl refl)) (passes-none l (λ k i. h k (inr i)))
 
--- the number is one of the list's, as a test
-abbrev isIn : ℕ → List ℕ → Bool
-isIn n [] = false
-isIn n (m ∷ l) = eqb n m || isIn n l
-
+-- the test of a list's numbers tells
 is-in : (n : ℕ) (l : List ℕ) → isIn n l ≡ true → Mem n l
 is-in n [] e = true-false e refl
 is-in n (m ∷ l) e = go (eqb n m) refl e (is-in n l)

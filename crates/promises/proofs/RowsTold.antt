@@ -16,7 +16,7 @@ use Rattle.state.specs.declared.Set.{Set}
 use Rattle.state.specs.declared.Handle.{Handle}
 use Rattle.state.specs.State.{timerAt}
 use Rattle.moves.specs.Rules.{isFree}
-use Rattle.laws.specs.Table.{lifeAt, notLive, dead, freeAt, full}
+use Rattle.promises.specs.Conditions.{lifeAt, notLive, dead, freeAt, full}
 
 ref-or : {P Q : Type 0} {a b : Bool} → Ref P a → Ref Q b → Ref (P ⊎ Q) (a || b)
 ref-or (holds p) r = holds (inl p)
