@@ -1,5 +1,5 @@
-// Sets that no call leads to, built by hand, and what the calls answer: sound ones are answered as the rules say, and unsound ones
-// of each kind are refused with 1. Each line says what the set is, then what was answered.
+// Sets that no call leads to, or none in a lifetime, built by hand, and what the calls answer: sound ones are answered as the rules
+// say, and unsound ones of each kind are refused with 1. Each line says what the set is, then what was answered.
 use heap::Entry;
 use heap::Heap;
 use heap::Place;
@@ -195,6 +195,71 @@ fn sound_ones() {
     tell(u);
 }
 
+// An add after a drain, told. Answers the set.
+fn drained_add(s: Set) -> Set {
+    let d = timers::drain(s);
+    let g = d.set;
+    let a = timers::add(g, 10);
+    let r = a.reply;
+    tell(r);
+    let h = a.set;
+    h
+}
+
+// A set of which this is every place but place 0. A cancelled timer with this use number is there, and a drain reaches it.
+fn last_uses(uses: u32, others: Timer) -> Set {
+    let mut ts = [others; heap::CAP];
+    ts[0] = Timer {
+        life: Life::Cancelled { word: 0 },
+        waiting: Waiting::Last,
+        held: Held::Nothing,
+        uses,
+    };
+    Set {
+        heap: heap::fresh(),
+        timers: ts,
+        first: First::At(Place(0)),
+        closed: false,
+    }
+}
+
+// The last use numbers of a place: it is retired after the last of all, and not before.
+fn worn_out_ones() {
+    let free = Timer {
+        life: Life::Free,
+        waiting: Waiting::No,
+        held: Held::Nothing,
+        uses: 0,
+    };
+    let live = Timer {
+        life: Life::Live { word: 0, due: 5 },
+        waiting: Waiting::No,
+        held: Held::Nothing,
+        uses: 0,
+    };
+    io::write_all(
+        STDOUT_FILENO,
+        b"place 0 cancelled with use number 4294967294: drain, add ",
+    );
+    drained_add(last_uses(4_294_967_294, free));
+    io::write_all(STDOUT_FILENO, b"with 4294967295: drain, add ");
+    drained_add(last_uses(4_294_967_295, free));
+    io::write_all(
+        STDOUT_FILENO,
+        b"with 4294967294, and no other place free: drain, add ",
+    );
+    let s = drained_add(last_uses(4_294_967_294, live));
+    io::write_all(STDOUT_FILENO, b"and an add more ");
+    let a = timers::add(s, 10);
+    let r = a.reply;
+    tell(r);
+    io::write_all(
+        STDOUT_FILENO,
+        b"with 4294967295, and no other place free: drain, add ",
+    );
+    drained_add(last_uses(4_294_967_295, live));
+}
+
 // Unsound sets, one of each kind.
 fn unsound_ones() {
     io::write_all(STDOUT_FILENO, b"count, an entry and no slot: ");
@@ -273,5 +338,6 @@ fn unsound_ones() {
 
 fn main() {
     sound_ones();
+    worn_out_ones();
     unsound_ones();
 }

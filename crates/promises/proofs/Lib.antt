@@ -29,3 +29,5 @@ pub mod Functions
 pub mod Owing
 pub mod Timeouts
 pub mod Bound
+pub mod States
+pub mod Corners

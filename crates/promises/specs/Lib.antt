@@ -9,3 +9,6 @@ pub mod Otherwise
 pub mod Useless
 pub mod Timeouts
 pub mod Bound
+pub mod Clauses
+pub mod States
+pub mod Corners
