@@ -17,9 +17,9 @@ use Rattle.theory.proofs.Counting.{count-same}
 use Rattle.heap.specs.Capacity.{cap}
 use Rattle.heap.specs.declared.SlotState.{SlotState}
 use Rattle.heap.specs.declared.Heap.{Heap}
-use Rattle.heap.specs.declared.fault.Fault.the-variants.{No, Count, Position, Order, FreeChain}
+use Rattle.heap.specs.declared.fault.Fault.the-variants.{No, Count, FreeChain}
 use Rattle.heap.specs.Rules.{stateAt, slotAt, before}
-use Rattle.heap.specs.Faults.{isFull, names, linkOf, fullAt, emptyAt, nextAt, countOk, positionOk, orderOk, faultBy, orElse, countFault, positionFault, orderFault, chainFault, faultOf, isNo, consistentOf}
+use Rattle.heap.specs.Faults.{isFull, names, linkOf, fullAt, emptyAt, nextAt, countOk, positionOk, orderOk, misplaced, disordered, faultBy, orElse, countFault, positionFault, orderFault, chainFault, faultOf, isNo, consistentOf}
 use Rattle.heap.specs.InUse.{SameInUse}
 use Rattle.heap.proofs.Items.{and-same}
 use Rattle.heap.proofs.SoundFacts.{empty-made}
@@ -73,14 +73,14 @@ module _ (g h : Heap) (r : SameInUse g h) where
   position-fault : positionFault g ≡ positionFault h
   unfolding positionFault
   position-fault =
-      ap (faultBy Position)
+      ap (faultBy misplaced)
       (ap (λ (n : ℕ). firstBad (positionOk g) n 0) (r .same-len)
       ∙ first-same (positionOk g) (positionOk h) (h .len) 0 (λ i l b. position-ok i (omega arith)))
 
   order-fault : orderFault g ≡ orderFault h
   unfolding orderFault
   order-fault =
-      ap (faultBy Order)
+      ap (faultBy disordered)
       (ap (λ (n : ℕ). firstBad (orderOk g) (n - 1) 1) (r .same-len)
       ∙ first-same (orderOk g) (orderOk h) (h .len - 1) 1 (λ i l b. order-ok i (omega arith)))
 

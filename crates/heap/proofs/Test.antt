@@ -23,7 +23,7 @@ use Rattle.heap.specs.declared.Heap.{Heap}
 use Rattle.heap.specs.declared.fault.Fault.{Fault}
 use Rattle.heap.specs.declared.fault.Fault.the-variants.{No, Count, Position, Order, FreeChain}
 use Rattle.heap.specs.Rules.{entryAt, stateAt, slotAt, before}
-use Rattle.heap.specs.Faults.{names, fullAt, emptyAt, nextAt, countOk, positionOk, orderOk, faultBy, orElse, countFault, positionFault, orderFault, chainFault, faultOf, isNo, consistentOf}
+use Rattle.heap.specs.Faults.{names, fullAt, emptyAt, nextAt, countOk, positionOk, orderOk, misplaced, disordered, faultBy, orElse, countFault, positionFault, orderFault, chainFault, faultOf, isNo, consistentOf}
 use Rattle.heap.specs.Sound.{Sound, Counted}
 use Rattle.heap.proofs.FaultLaws.{position-yes, order-not}
 
@@ -75,11 +75,11 @@ module _ (h : Heap) where
 
   ref-position : Ref ((i : ℕ) → 0 ≤ i → i < 0 + h .len → positionOk h i ≡ true) (isNo (positionFault h))
   unfolding positionFault
-  ref-position = rw (no-by Position (λ k. refl) (firstBad (positionOk h) (h .len) 0)) (ref-all (positionOk h) (h .len) 0)
+  ref-position = rw (no-by misplaced (λ k. refl) (firstBad (positionOk h) (h .len) 0)) (ref-all (positionOk h) (h .len) 0)
 
   ref-order : Ref ((i : ℕ) → 1 ≤ i → i < 1 + (h .len - 1) → orderOk h i ≡ true) (isNo (orderFault h))
   unfolding orderFault
-  ref-order = rw (no-by Order (λ k. refl) (firstBad (orderOk h) (h .len - 1) 1)) (ref-all (orderOk h) (h .len - 1) 1)
+  ref-order = rw (no-by disordered (λ k. refl) (firstBad (orderOk h) (h .len - 1) 1)) (ref-all (orderOk h) (h .len - 1) 1)
 
   abbrev chainTest : Bool
   chainTest = chainOkb (emptyAt h) (nextAt h) (h .made) (unless (h .made) (h .free .0))

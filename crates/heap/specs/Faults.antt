@@ -52,6 +52,13 @@ positionOk h i = ltb (slotAt h i) (h .made) && names (stateAt h (slotAt h i)) i
 unfoldable pub orderOk : Heap → ℕ → Bool
 orderOk h i = not (before (entryAt h i) (entryAt h (parent i)))
 
+-- the faults at a position: its entry and its slot do not name each other; its entry is smaller than its parent
+abbrev pub misplaced : ℕ → Fault
+misplaced i = Position (record { 0 = i })
+
+abbrev pub disordered : ℕ → Fault
+disordered i = Order (record { 0 = i })
+
 -- a fault of a kind, where a scan found one
 abbrev pub faultBy : (ℕ → Fault) → Option ℕ → Fault
 faultBy kind none = No
@@ -69,11 +76,11 @@ unfoldable pub countFault : Heap → Fault
 countFault h = cond (countOk h) No Count
 
 unfoldable pub positionFault : Heap → Fault
-positionFault h = faultBy Position (firstBad (positionOk h) (h .len) 0)
+positionFault h = faultBy misplaced (firstBad (positionOk h) (h .len) 0)
 
 -- the head has no parent
 unfoldable pub orderFault : Heap → Fault
-orderFault h = faultBy Order (firstBad (orderOk h) (h .len - 1) 1)
+orderFault h = faultBy disordered (firstBad (orderOk h) (h .len - 1) 1)
 
 -- the free chain visits each empty slot once and ends at the number of slots: the step along it where it does not
 unfoldable pub chainFault : Heap → Fault

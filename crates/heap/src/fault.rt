@@ -2,6 +2,7 @@
 // capacity, slots out of range, free chains that loop or leave the slab.
 use crate::CAP;
 use crate::Heap;
+use crate::Pos;
 use crate::SlotState;
 ghost use mathlib.Core.Path.{_≡_};
 ghost use Prim.Native.Nat.{_≤_};
@@ -17,9 +18,9 @@ pub enum Fault {
     // too many entries or slots, or not as many entries as full slots
     Count,
     // the first position whose entry and slot do not name each other
-    Position(usize),
+    Position(Pos),
     // the first position whose entry is smaller than its parent
-    Order(usize),
+    Order(Pos),
     // the step along the free chain at which it goes wrong
     FreeChain(usize),
 }
@@ -85,18 +86,20 @@ fn position_fault(h: Heap) -> Fault
 {
     let mut i: usize = 0;
     while i < h.len {
+        let at = Pos(i as u16);
         let e = h.entries[i];
-        let s = e.slot.0 as usize;
+        let slot = e.slot;
+        let s = slot.0 as usize;
         if h.made <= s {
-            return Fault::Position(i);
+            return Fault::Position(at);
         }
         let x = h.slots[s];
         let st = x.state;
         let SlotState::Full(pos) = st else {
-            return Fault::Position(i);
+            return Fault::Position(at);
         };
-        if pos.0 as usize != i {
-            return Fault::Position(i);
+        if pos.0 != at.0 {
+            return Fault::Position(at);
         }
         i += 1;
     }
@@ -113,7 +116,7 @@ fn order_fault(h: Heap) -> Fault
         let e = h.entries[i];
         let p = h.entries[(i - 1) / 2];
         if crate::before(e, p) {
-            return Fault::Order(i);
+            return Fault::Order(Pos(i as u16));
         }
         i += 1;
     }
@@ -127,21 +130,23 @@ fn chain_fault(h: Heap) -> Fault
 {
     let mut left = h.made - h.len;
     let mut step: usize = 0;
-    let mut at = h.free.0 as usize;
+    let mut at = h.free;
     while 0 < left {
-        if h.made <= at {
+        let s = at.0 as usize;
+        if h.made <= s {
             return Fault::FreeChain(step);
         }
-        let x = h.slots[at];
+        let x = h.slots[s];
         let st = x.state;
         let SlotState::Empty(next) = st else {
             return Fault::FreeChain(step);
         };
-        at = next.0 as usize;
+        at = next;
         left -= 1;
         step += 1;
     }
-    if at == h.made {
+    let end = at.0 as usize;
+    if end == h.made {
         Fault::No
     } else {
         Fault::FreeChain(step)

@@ -235,7 +235,7 @@ pub fn push_sound(h: Heap, at: u64, generation: u32, place: Place) -> AfterPush
         place,
         slot,
     };
-    let m = walk::percolate_up(added(taken(h), e), n);
+    let m = walk::percolate_up(added(taken(h), e), Pos(n as u16));
     let g = m.heap;
     AfterPush {
         heap: g,
@@ -264,7 +264,7 @@ pub fn remove_sound(h: Heap, slot: Slot) -> AfterRemove
         SlotState::Full(pos) => {
             let p = pos.0 as usize;
             let e = h.entries[p];
-            let m = filled(vacated(h, slot), p);
+            let m = filled(vacated(h, slot), pos);
             let g = m.heap;
             AfterRemove {
                 heap: g,
@@ -340,7 +340,7 @@ fn added(h: Heap, e: Entry) -> Heap
     let n = h.len;
     let mut g = h;
     g.len = n + 1;
-    put(g, n, e)
+    put(g, Pos(n as u16), e)
 }
 
 // The slot becomes the free head, naming the old one.
@@ -359,12 +359,13 @@ fn vacated(h: Heap, slot: Slot) -> Heap
 }
 
 // The last entry moves into the hole at a position, and from there up or down.
-fn filled(h: Heap, p: usize) -> walk::Moved
-    requires { ⌜ p < h .len ⌝ }
+fn filled(h: Heap, pos: Pos) -> walk::Moved
+    requires { ⌜ pos .0 < h .len ⌝ }
     requires { ⌜ SlotsIn h ⌝ }
-    ensures { λ r. ⌜ r ≡ filledOf h p ⌝ }
+    ensures { λ r. ⌜ r ≡ filledOf h (pos .0) ⌝ }
 {
     let last = h.len - 1;
+    let p = pos.0 as usize;
     let gone = h.entries[p];
     let e = h.entries[last];
     let mut g = h;
@@ -372,27 +373,28 @@ fn filled(h: Heap, p: usize) -> walk::Moved
     if p == last {
         return walk::Moved {
             heap: g,
-            at: Pos(p as u16),
+            at: pos,
             swaps: 0,
         };
     }
     if before(e, gone) {
-        walk::percolate_up(put(g, p, e), p)
+        walk::percolate_up(put(g, pos, e), pos)
     } else {
-        walk::percolate_down(put(g, p, e), p)
+        walk::percolate_down(put(g, pos, e), pos)
     }
 }
 
 // The entry stands at the position, and its slot says so.
-fn put(h: Heap, i: usize, e: Entry) -> Heap
-    requires { ⌜ (i < cap) × (e .slot .0 < cap) ⌝ }
-    ensures { λ r. ⌜ r ≡ putAt h i e ⌝ }
+fn put(h: Heap, pos: Pos, e: Entry) -> Heap
+    requires { ⌜ (pos .0 < cap) × (e .slot .0 < cap) ⌝ }
+    ensures { λ r. ⌜ r ≡ putAt h (pos .0) e ⌝ }
 {
     let mut g = h;
+    let i = pos.0 as usize;
     let s = e.slot.0 as usize;
     g.entries[i] = e;
     g.slots[s] = SlabSlot {
-        state: SlotState::Full(Pos(i as u16)),
+        state: SlotState::Full(pos),
     };
     g
 }

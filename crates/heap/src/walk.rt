@@ -17,16 +17,18 @@ pub struct Moved {
 }
 
 // The entry at a position goes up while it is smaller than its parent.
-pub fn percolate_up(h: Heap, from: usize) -> Moved
-    requires { ⌜ from < h .len ⌝ }
+pub fn percolate_up(h: Heap, from: Pos) -> Moved
+    requires { ⌜ from .0 < h .len ⌝ }
     requires { ⌜ SlotsIn h ⌝ }
-    ensures { λ r. ⌜ r ≡ upFrom from h from 0 ⌝ }
+    ensures { λ r. ⌜ r ≡ upFrom (from .0) h (from .0) 0 ⌝ }
 {
     let mut g = h;
-    let mut i = from;
+    let mut at = from;
     let mut n: usize = 0;
-    while 0 < i {
-        let p = (i - 1) / 2;
+    while 0 < at.0 {
+        let parent = Pos((at.0 - 1) / 2);
+        let i = at.0 as usize;
+        let p = parent.0 as usize;
         let e = g.entries[i];
         let f = g.entries[p];
         if !crate::before(e, f) {
@@ -36,74 +38,78 @@ pub fn percolate_up(h: Heap, from: usize) -> Moved
         let t = f.slot.0 as usize;
         g.entries[i] = f;
         g.slots[t] = SlabSlot {
-            state: SlotState::Full(Pos(i as u16)),
+            state: SlotState::Full(at),
         };
         g.entries[p] = e;
         g.slots[s] = SlabSlot {
-            state: SlotState::Full(Pos(p as u16)),
+            state: SlotState::Full(parent),
         };
-        i = p;
+        at = parent;
         n += 1;
     }
     Moved {
         heap: g,
-        at: Pos(i as u16),
+        at,
         swaps: n,
     }
 }
 
 // The entry at a position goes down while a child is smaller than it.
-pub fn percolate_down(h: Heap, from: usize) -> Moved
-    requires { ⌜ from < h .len ⌝ }
+pub fn percolate_down(h: Heap, from: Pos) -> Moved
+    requires { ⌜ from .0 < h .len ⌝ }
     requires { ⌜ SlotsIn h ⌝ }
-    ensures { λ r. ⌜ r ≡ downFrom (h .len) h from 0 ⌝ }
+    ensures { λ r. ⌜ r ≡ downFrom (h .len) h (from .0) 0 ⌝ }
 {
     let len = h.len;
     let mut g = h;
-    let mut i = from;
+    let mut at = from;
     let mut n: usize = 0;
     let last = loop {
-        let l = 2 * i + 1;
-        let r = 2 * i + 2;
+        let left = Pos(2 * at.0 + 1);
+        let right = Pos(2 * at.0 + 2);
+        let i = at.0 as usize;
+        let l = left.0 as usize;
+        let r = right.0 as usize;
         if len <= l {
-            break i;
+            break at;
         }
         let e = g.entries[i];
         let a = g.entries[l];
-        let mut c = l;
+        let mut child = left;
         if len <= r {
             if !crate::before(a, e) {
-                break i;
+                break at;
             }
         } else {
             let b = g.entries[r];
             if crate::before(a, e) {
                 if crate::before(b, a) {
-                    c = r;
+                    child = right;
                 }
             } else if crate::before(b, e) {
-                c = r;
+                child = right;
             } else {
-                break i;
+                break at;
             }
         }
+        let c = child.0 as usize;
         let f = g.entries[c];
         let s = e.slot.0 as usize;
         let t = f.slot.0 as usize;
         g.entries[i] = f;
         g.slots[t] = SlabSlot {
-            state: SlotState::Full(Pos(i as u16)),
+            state: SlotState::Full(at),
         };
         g.entries[c] = e;
         g.slots[s] = SlabSlot {
-            state: SlotState::Full(Pos(c as u16)),
+            state: SlotState::Full(child),
         };
-        i = c;
+        at = child;
         n += 1;
     };
     Moved {
         heap: g,
-        at: Pos(last as u16),
+        at: last,
         swaps: n,
     }
 }

@@ -6,6 +6,7 @@ use mathlib.Core.List.{List}
 use Prim.Native.Nat.{ℕ}
 use Rattle.theory.specs.Promise.{NoSecond, TellsApart}
 use Rattle.theory.proofs.Promise.{by-rule, plain-apart, undone-apart}
+use Rattle.heap.specs.declared.Place.{Place}
 use Rattle.state.specs.declared.Life.{Life}
 use Rattle.state.specs.declared.Set.{Set}
 use Rattle.moves.specs.declared.list.Spot.{Spot}
@@ -20,7 +21,7 @@ spot-apart = undone-apart spotOf back told
   where
     back : Option ℕ → Spot
     back none = S.Nowhere
-    back (some p) = S.At p
+    back (some p) = S.At (record { 0 = p })
 
     told : (r : Spot) → back (spotOf r) ≡ r
     told S.Nowhere = refl
@@ -35,8 +36,8 @@ pub ring-apart : TellsApart rang
 ring-apart =
     undone-apart rang (λ (q : Ring). (record { set = q .set; reported = q .reported; popped = q .popped }, q .list)) (λ r. refl)
 
-pub touched-no-second : NoSecond (λ (q : Set × ℕ × Life) (r : Set). Touches (q .0) (q .1) (q .2) r)
-touched-no-second = by-rule (λ (r : Set). r) (λ (q : Set × ℕ × Life). touchedOf (q .0) (q .1) (q .2)) plain-apart
+pub touched-no-second : NoSecond (λ (q : Set × Place × Life) (r : Set). Touches (q .0) (q .1) (q .2) r)
+touched-no-second = by-rule (λ (r : Set). r) (λ (q : Set × Place × Life). touchedOf (q .0) (q .1 .0) (q .2)) plain-apart
 
 pub lowest-free-no-second : NoSecond FindsFree
 lowest-free-no-second = by-rule spotOf lowestFree spot-apart

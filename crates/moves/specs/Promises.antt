@@ -3,14 +3,15 @@
 use mathlib.Core.Path.{_≡_}
 use mathlib.Core.List.{List}
 use Prim.Native.Nat.{ℕ}
+use Rattle.heap.specs.declared.Place.{Place}
 use Rattle.state.specs.declared.Life.{Life}
 use Rattle.state.specs.declared.Set.{Set}
 use Rattle.moves.specs.declared.list.Spot.{Spot}
 use Rattle.moves.specs.declared.rings.Ran.{Ran}
 use Rattle.moves.specs.Rules.{touchedOf, spotOf, lowestFree, drainedOf, Ring, advancedOf, closedOf}
 
-abbrev pub Touches : Set → ℕ → Life → Set → Type 0
-Touches s p l r = r ≡ touchedOf s p l
+abbrev pub Touches : Set → Place → Life → Set → Type 0
+Touches s p l r = r ≡ touchedOf s (p .0) l
 
 abbrev pub FindsFree : Set → Spot → Type 0
 FindsFree s r = spotOf r ≡ lowestFree s

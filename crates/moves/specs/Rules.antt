@@ -81,7 +81,7 @@ lowestFree s = firstBad (taken s) cap 0
 -- what the code's search for one finds
 abbrev pub spotOf : Spot → Option ℕ
 spotOf S.Nowhere = none
-spotOf (S.At p) = some p
+spotOf (S.At p) = some (p .0)
 
 -- THE DRAIN
 

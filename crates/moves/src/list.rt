@@ -14,18 +14,18 @@ ghost use Rattle.moves.specs.Promises.{Touches, FindsFree};
 // Where a timer can be put.
 pub enum Spot {
     Nowhere,
-    At(usize),
+    At(Place),
 }
 
 // The timer at a place gets a new life and is pushed on the list. One that waits already stays where it is in the list.
-pub fn touched(s: Set, p: usize, life: Life) -> Set
-    requires { ⌜ p < cap ⌝ }
-    ensures { λ r. ⌜ Touches s p life r ⌝ }
+pub fn touched(s: Set, place: Place, life: Life) -> Set
+    requires { ⌜ place .0 < cap ⌝ }
+    ensures { λ r. ⌜ Touches s place life r ⌝ }
 {
-    let place = Place(p as u16);
     let h = s.heap;
     let f = s.first;
     let mut ts = s.timers;
+    let p = place.0 as usize;
     let t = ts[p];
     let w = t.waiting;
     let d = t.held;
@@ -66,7 +66,7 @@ pub fn lowest_free(s: Set) -> Spot
         let t = s.timers[p];
         let l = t.life;
         if is_free(l) {
-            return Spot::At(p);
+            return Spot::At(Place(p as u16));
         }
         p += 1;
     }

@@ -25,20 +25,20 @@ pub fn drained(s: Set) -> Set
         let First::At(place) = f else {
             break;
         };
-        let p = place.0 as usize;
-        g = settled(g, p);
+        g = settled(g, place);
         left -= 1;
     }
     g
 }
 
 // The timer at a place, first in the list, is taken off it and its update made. (A place out of range ends the list.)
-fn settled(s: Set, p: usize) -> Set
+fn settled(s: Set, place: Place) -> Set
     requires { ⌜ Sound (s .heap) ⌝ }
-    ensures { λ r. ⌜ r ≡ settledOf s p ⌝ }
+    ensures { λ r. ⌜ r ≡ settledOf s (place .0) ⌝ }
 {
     let h = s.heap;
     let mut ts = s.timers;
+    let p = place.0 as usize;
     if heap::CAP <= p {
         return Set {
             heap: h,
@@ -54,7 +54,7 @@ fn settled(s: Set, p: usize) -> Set
     let l = t.life;
     match l {
         Life::Live { word, due } => {
-            let o = heap::push_sound(dropped(h, d), due, word::generation(word), Place(p as u16));
+            let o = heap::push_sound(dropped(h, d), due, word::generation(word), place);
             let k = o.heap;
             let a = o.answer;
             ts[p] = Timer {

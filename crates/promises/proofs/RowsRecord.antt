@@ -32,8 +32,8 @@ bare-row false u v = refl
 
 -- 12: operation by operation
 fields-row : (o p u v : ℕ)
-    → refusalIn (callOf (record { operation = o; place = p; uses = u; value = v }))
-    ≡ cond (bad (record { operation = o; place = p; uses = u; value = v })) (some 12) none
+    → refusalIn (callOf (record { operation = o; place = record { 0 = p }; uses = u; value = v }))
+    ≡ cond (bad (record { operation = o; place = record { 0 = p }; uses = u; value = v })) (some 12) none
 unfolding callOf
 fields-row zero p u v = made-row _ _ (no-handle (eqb p 0) (eqb u 0))
 fields-row (suc zero) p u v = made-row _ _ refl
@@ -50,4 +50,4 @@ pub record-row : (bytes : List ℕ) → refusalIn (decodeOf bytes) ≡ cond (bad
 unfolding decodeOf
 record-row bytes =
     let f = fieldsOf bytes in
-    fields-row (f .operation) (f .place) (f .uses) (f .value)
+    fields-row (f .operation) (f .place .0) (f .uses) (f .value)

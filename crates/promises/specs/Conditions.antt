@@ -173,5 +173,5 @@ stray u n = not u && not (eqb n 0)
 abbrev pub bad : Fields → Bool
 bad f =
     leb 9 (f .operation)
-    || (stray (usesHandle (f .operation)) (f .place)
+    || (stray (usesHandle (f .operation)) (f .place .0)
     || (stray (usesHandle (f .operation)) (f .uses) || stray (usesValue (f .operation)) (f .value)))

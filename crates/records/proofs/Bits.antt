@@ -31,8 +31,8 @@ half-more a b hb =
 
 -- the four fields, each from its own bytes: head the first two, use the next four, value the last eight
 apart : (a b u v : ℕ) → a < 256 → b < 256 → u < 2 ^ 32 → v < 2 ^ 64
-    → split (((a * 256 + b) * 2 ^ 32 + u) * 2 ^ 64 + v) ≡ record { operation = a / 16; place = a % 16 * 256 + b; uses = u; value = v }
-apart a b u v ha hb hu hv = λ i. record { operation = o i; place = p i; uses = q i; value = r i }
+    → split (((a * 256 + b) * 2 ^ 32 + u) * 2 ^ 64 + v) ≡ record { operation = a / 16; place = record { 0 = a % 16 * 256 + b }; uses = u; value = v }
+apart a b u v ha hb hu hv = λ i. record { operation = o i; place = record { 0 = p i }; uses = q i; value = r i }
   where
     n : ℕ
     n = ((a * 256 + b) * 2 ^ 32 + u) * 2 ^ 64 + v
@@ -56,7 +56,7 @@ four l i = ((getD l i 0 * 256 + getD l (i + 1) 0) * 256 + getD l (i + 2) 0) * 25
 -- the fields of 14 bytes, each from its own bytes: the use from four, the value from two fours
 pub read-off : (l : List ℕ) (p u x y : ℕ) → getD l 0 0 < 256 → getD l 1 0 < 256 → u < 2 ^ 32 → x < 2 ^ 32 → y < 2 ^ 32
     → p ≡ getD l 0 0 % 16 * 256 + getD l 1 0 → u ≡ four l 2 → x ≡ four l 6 → y ≡ four l 10
-    → record { operation = getD l 0 0 / 16; place = p; uses = u; value = bitOr (x * 2 ^ 32 % 2 ^ 64) y } ≡ fieldsOf l
+    → record { operation = getD l 0 0 / 16; place = record { 0 = p }; uses = u; value = bitOr (x * 2 ^ 32 % 2 ^ 64) y } ≡ fieldsOf l
 unfolding fieldsOf
 read-off l p u x y ha hb hu hx hy ep eu ex ey =
     let whole : ((getD l 0 0 * 256 + getD l 1 0) * 2 ^ 32 + u) * 2 ^ 64 + (x * 2 ^ 32 + y) ≡ joined 14 l = omega arith in

@@ -22,18 +22,18 @@ joined (suc k) bytes = joined k bytes * 256 + getD bytes k 0
 
 -- a number of 112 bits as its fields, the most significant first: operation 4 bits, place 12, use 32, value 64
 abbrev pub split : ℕ → Fields
-split n = record { operation = n / 2 ^ 108; place = n / 2 ^ 96 % 2 ^ 12; uses = n / 2 ^ 64 % 2 ^ 32; value = n % 2 ^ 64 }
+split n = record { operation = n / 2 ^ 108; place = record { 0 = n / 2 ^ 96 % 2 ^ 12 }; uses = n / 2 ^ 64 % 2 ^ 32; value = n % 2 ^ 64 }
 
 unfoldable pub fieldsOf : List ℕ → Fields
 fieldsOf bytes = split (joined 14 bytes)
 
 -- the handle that the place and the use name
 abbrev pub handleIn : Fields → Handle
-handleIn f = record { place = record { 0 = f .place }; uses = f .uses }
+handleIn f = record { place = f .place; uses = f .uses }
 
 -- whether place and use are zero, and whether the value is
 abbrev pub noHandle : Fields → Bool
-noHandle f = eqb (f .place) 0 && eqb (f .uses) 0
+noHandle f = eqb (f .place .0) 0 && eqb (f .uses) 0
 
 abbrev pub noValue : Fields → Bool
 noValue f = eqb (f .value) 0

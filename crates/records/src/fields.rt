@@ -9,7 +9,7 @@ ghost use Rattle.records.specs.Promises.{Halves, Joins, Parts, HasNoHand
 
 pub struct Fields {
     pub operation: u8,
-    pub place: u16,
+    pub place: Place,
     pub uses: u32,
     pub value: u64,
 }
@@ -22,7 +22,7 @@ pub fn parted(bytes: [u8; 14]) -> Fields
     let lower = four(bytes[10], bytes[11], bytes[12], bytes[13]);
     Fields {
         operation: bytes[0] >> 4,
-        place: twelve(bytes[0], bytes[1]),
+        place: Place(twelve(bytes[0], bytes[1])),
         uses: four(bytes[2], bytes[3], bytes[4], bytes[5]),
         value: ((upper as u64) << 32) | (lower as u64),
     }
@@ -47,8 +47,9 @@ pub fn call_of(f: Fields) -> Decoded
     ensures { λ r. ⌜ Calls f r ⌝ }
 {
     let value = f.value;
+    let place = f.place;
     let handle = Handle {
-        place: Place(f.place),
+        place,
         uses: f.uses,
     };
     let operation = f.operation;
@@ -70,7 +71,7 @@ pub fn call_of(f: Fields) -> Decoded
 fn no_handle(f: Fields) -> bool
     ensures { λ r. ⌜ HasNoHandle f r ⌝ }
 {
-    if f.place != 0 {
+    if f.place.0 != 0 {
         return false;
     }
     f.uses == 0

@@ -18,9 +18,10 @@ use Rattle.heap.proofs.Test.{consistent-sound}
 use Rattle.state.specs.declared.Set.{Set}
 use Rattle.state.specs.declared.fault.Fault.{Fault}
 use Rattle.state.specs.declared.fault.Fault.the-variants as F
+use Rattle.state.specs.declared.fault.Walk.{Walk}
+use Rattle.state.specs.declared.fault.Walk.the-variants as W
 use Rattle.state.specs.declared.fault.Scan.{Scan}
-use Rattle.state.specs.declared.fault.Scan.the-variants as S
-use Rattle.state.specs.Faults.{heapFault, listScan, lower, entryScan, firstPlace, placeScan, scanned, faultBy, orElse, faultOf, isNo}
+use Rattle.state.specs.Faults.{heapFault, listScan, lower, entryScan, firstPlace, placeScan, walked, scanned, atPlace, faultBy, orElse, faultOf, isNo}
 use Rattle.state.proofs.fault.Fault.{the-type}
 
 -- what the code finds to be of a kind after the first, `No`, is a fault
@@ -39,7 +40,7 @@ module _ (s : Set) {f : HF.Fault} (e : f ≡ Heaps.faultOf (s .heap)) where
   -- a fault of the heap is the first
   pub heap-first : Heaps.isNo f ≡ false → heapFault f ≡ faultOf s
   unfolding faultOf
-  heap-first b = go f b (orElse (faultBy F.List (listScan s)) (faultBy F.Place (placeScan s))) ∙ rw e
+  heap-first b = go f b (orElse (faultBy F.List (listScan s)) (faultBy atPlace (placeScan s))) ∙ rw e
     where
       go : (f : HF.Fault) → Heaps.isNo f ≡ false → (g : Fault) → heapFault f ≡ orElse (heapFault f) g
       go H.No b g = absurd (true≢false b)
@@ -55,12 +56,12 @@ module _ (s : Set) {f : HF.Fault} (e : f ≡ Heaps.faultOf (s .heap)) where
     heap-sound n m = consistent-sound (s .heap) n m (ap Heaps.isNo (sym e ∙ z))
 
     -- then that of the list
-    pub list-next : {r : Scan} {k : ℕ} → scanned r ≡ listScan s → r ≡ S.At k → F.List k ≡ faultOf s
+    pub list-next : {r : Walk} {k : ℕ} → walked r ≡ listScan s → r ≡ W.At k → F.List k ≡ faultOf s
     unfolding faultOf
     list-next {r} l a = rw (sym e ∙ z, sym l, a)
 
     -- and then that of the places
-    pub place-last : {r : Scan} (a b q : Scan) → scanned r ≡ listScan s → r ≡ S.Fine → scanned a ≡ firstPlace s
-        → scanned b ≡ entryScan s (s .heap .len) → scanned q ≡ lower (scanned a) (scanned b) → faultBy F.Place (scanned q) ≡ faultOf s
+    pub place-last : {r : Walk} (a b q : Scan) → walked r ≡ listScan s → r ≡ W.Fine → scanned a ≡ firstPlace s
+        → scanned b ≡ entryScan s (s .heap .len) → scanned q ≡ lower (scanned a) (scanned b) → faultBy atPlace (scanned q) ≡ faultOf s
     unfolding faultOf placeScan
     place-last a b q l n x y w = rw (sym e ∙ z, sym l, n, sym x, sym y, w)

@@ -28,9 +28,9 @@ use Rattle.heap.proofs.InUseTest as HeapTest
 use Rattle.state.specs.declared.Held.{Held}
 use Rattle.state.specs.declared.Held.the-variants as Held
 use Rattle.state.specs.declared.Set.{Set}
-use Rattle.state.specs.declared.fault.Fault.the-variants.{List, Place}
+use Rattle.state.specs.declared.fault.Fault.the-variants.{List}
 use Rattle.state.specs.State.{timerAt}
-use Rattle.state.specs.Faults.{heapFault, waitsAt, afterAt, listScan, entryHas, heldOk, lifeOk, closedOk, placeOk, entryFits, entryOk, lower, entryScan, firstPlace, placeScan, faultBy, orElse, faultOf, isNo, soundOf}
+use Rattle.state.specs.Faults.{heapFault, waitsAt, afterAt, listScan, entryHas, heldOk, lifeOk, closedOk, placeOk, entryFits, entryOk, lower, entryScan, firstPlace, placeScan, atPlace, faultBy, orElse, faultOf, isNo, soundOf}
 use Rattle.state.specs.InUse.{SameInUse, Twins}
 
 -- their heaps differ only there
@@ -92,14 +92,14 @@ module _ (s : Set) (g : Heap) (r : Heap.Twins g (s .heap)) where
   fault-over : faultOf (over s g) ≡ faultOf s
   unfolding faultOf listScan waitsAt afterAt
   fault-over =
-      ap (λ (f : HF.Fault). orElse (heapFault f) (orElse (faultBy List (listScan s)) (faultBy Place (placeScan (over s g)))))
+      ap (λ (f : HF.Fault). orElse (heapFault f) (orElse (faultBy List (listScan s)) (faultBy atPlace (placeScan (over s g)))))
       (HeapTest.fault-in-use g (s .heap) (r .same))
       ∙ go (Heaps.faultOf (s .heap)) refl
     where
       go : (f : HF.Fault) → Heaps.faultOf (s .heap) ≡ f
-          → orElse (heapFault f) (orElse (faultBy List (listScan s)) (faultBy Place (placeScan (over s g))))
-          ≡ orElse (heapFault f) (orElse (faultBy List (listScan s)) (faultBy Place (placeScan s)))
-      go H.No e = ap (λ (o : Option ℕ). orElse (faultBy List (listScan s)) (faultBy Place o)) (places-same (no-fault e))
+          → orElse (heapFault f) (orElse (faultBy List (listScan s)) (faultBy atPlace (placeScan (over s g))))
+          ≡ orElse (heapFault f) (orElse (faultBy List (listScan s)) (faultBy atPlace (placeScan s)))
+      go H.No e = ap (λ (o : Option ℕ). orElse (faultBy List (listScan s)) (faultBy atPlace o)) (places-same (no-fault e))
       go H.Count e = refl
       go (H.Position i) e = refl
       go (H.Order i) e = refl

@@ -23,7 +23,7 @@ use Rattle.state.specs.declared.Set.{Set}
 use Rattle.state.specs.declared.fault.Fault.{Fault}
 use Rattle.state.specs.declared.fault.Fault.the-variants.{No, Count, Position, Order, FreeChain, List, Place}
 use Rattle.state.specs.State.{headOf}
-use Rattle.state.specs.Faults.{heapFault, waitsAt, afterAt, listScan, placeOk, lower, entryScan, firstPlace, placeScan, faultBy, orElse, faultOf, isNo, soundOf}
+use Rattle.state.specs.Faults.{heapFault, waitsAt, afterAt, listScan, placeOk, lower, entryScan, firstPlace, placeScan, atPlace, faultBy, orElse, faultOf, isNo, soundOf}
 use Rattle.state.proofs.PlaceTest.{ref-self, PlaceFine, EntryFine, ref-place, ref-entries}
 
 -- there is no first fault where there is neither of the two
@@ -70,12 +70,12 @@ module _ (s : Set) where
   tested =
       let a = heapFault (Heaps.faultOf (s .heap)) in
       let b = faultBy List (listScan s) in
-      let c = faultBy Place (placeScan s) in
+      let c = faultBy atPlace (placeScan s) in
       sym (no-else a (orElse b c)
       ∙ ap (λ (x : Bool). x && isNo (orElse b c)) (no-heap (Heaps.faultOf (s .heap)))
       ∙ ap (λ (x : Bool). Heaps.isNo (Heaps.faultOf (s .heap)) && x) (no-else b c
       ∙ ap (λ (x : Bool). x && isNo c) (no-by List (λ k. refl) (listScan s) ∙ list-no)
-      ∙ ap (λ (x : Bool). listTest && x) (no-by Place (λ k. refl) (placeScan s) ∙ no-lower (firstPlace s) (entryScan s (s .heap .len)))))
+      ∙ ap (λ (x : Bool). listTest && x) (no-by atPlace (λ k. refl) (placeScan s) ∙ no-lower (firstPlace s) (entryScan s (s .heap .len)))))
 
   -- the scan over the places finds none exactly where all pass
   ref-places : Ref ((p : ℕ) → p < cap → PlaceFine s p) (noFault (firstPlace s))

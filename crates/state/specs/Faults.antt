@@ -26,6 +26,8 @@ use Rattle.state.specs.declared.Timer.{Timer}
 use Rattle.state.specs.declared.Set.{Set}
 use Rattle.state.specs.declared.fault.Fault.{Fault}
 use Rattle.state.specs.declared.fault.Fault.the-variants as F
+use Rattle.state.specs.declared.fault.Walk.{Walk}
+use Rattle.state.specs.declared.fault.Walk.the-variants as W
 use Rattle.state.specs.declared.fault.Scan.{Scan}
 use Rattle.state.specs.declared.fault.Scan.the-variants as S
 use Rattle.state.specs.State.{timerAt, isWaiting, nextIn, headOf}
@@ -116,10 +118,18 @@ firstPlace s = firstBad (placeOk s) cap 0
 unfoldable pub placeScan : Set → Option ℕ
 placeScan s = lower (firstPlace s) (entryScan s (s .heap .len))
 
--- what the code's scans find
+-- what the code's walk along the list finds, and its scans of places
+abbrev pub walked : Walk → Option ℕ
+walked W.Fine = none
+walked (W.At k) = some k
+
 abbrev pub scanned : Scan → Option ℕ
 scanned S.Fine = none
-scanned (S.At k) = some k
+scanned (S.At p) = some (p .0)
+
+-- the fault at a place
+abbrev pub atPlace : ℕ → Fault
+atPlace p = F.Place (record { 0 = p })
 
 abbrev pub faultBy : (ℕ → Fault) → Option ℕ → Fault
 faultBy kind none = F.No
@@ -136,7 +146,7 @@ orElse (F.List k) g = F.List k
 orElse (F.Place p) g = F.Place p
 
 unfoldable pub faultOf : Set → Fault
-faultOf s = orElse (heapFault (Heaps.faultOf (s .heap))) (orElse (faultBy F.List (listScan s)) (faultBy F.Place (placeScan s)))
+faultOf s = orElse (heapFault (Heaps.faultOf (s .heap))) (orElse (faultBy F.List (listScan s)) (faultBy atPlace (placeScan s)))
 
 abbrev pub isNo : Fault → Bool
 isNo F.No = true

@@ -7,13 +7,15 @@ use crate::Set;
 use crate::Timer;
 use crate::Waiting;
 use heap::Entry;
+use heap::Place;
+use heap::Pos;
 use heap::SlotState;
 ghost use mathlib.Core.Path.{_≡_};
 ghost use mathlib.Core.Bool.{_&&_};
 ghost use Rattle.theory.specs.Counting.{count};
 ghost use Rattle.heap.specs.Capacity.{cap};
 ghost use Rattle.heap.specs.Sound as HeapSound;
-ghost use Rattle.state.specs.Faults.{heapFault, waitsAt, listScan, lower as lowerOf, idleIn, lifeOk, closedOk, entryFits, firstPlace, entryScan, scanned};
+ghost use Rattle.state.specs.Faults.{heapFault, waitsAt, listScan, lower as lowerOf, idleIn, lifeOk, closedOk, entryFits, firstPlace, entryScan, walked, scanned};
 ghost use Rattle.state.specs.Promises.{Faults, Waits, Follows};
 
 // How many generations there are: 2^30.
@@ -23,19 +25,25 @@ const GENERATIONS: u32 = 1_073_741_824;
 pub enum Fault {
     No,
     Count,
-    Position(usize),
-    Order(usize),
+    Position(Pos),
+    Order(Pos),
     FreeChain(usize),
     // the step along the waiting list at which it goes wrong
     List(usize),
-    // the lowest place at fault; that of a heap entry is the place number that it holds, however large
-    Place(usize),
+    // the lowest place at fault; that of a heap entry is the place that it holds, however large
+    Place(Place),
 }
 
-// What a scan finds.
-pub enum Scan {
+// What the walk along the waiting list finds: the step at which it goes wrong.
+pub enum Walk {
     Fine,
     At(usize),
+}
+
+// What a scan of places finds.
+pub enum Scan {
+    Fine,
+    At(Place),
 }
 
 // The first fault of a set, in the order of the kinds.
@@ -47,7 +55,7 @@ pub fn first_fault(s: Set) -> Fault
     let heap::fault::Fault::No = f else {
         return of_heap(f);
     };
-    if let Scan::At(k) = list_scan(s) {
+    if let Walk::At(k) = list_scan(s) {
         return Fault::List(k);
     }
     match lower(place_scan(s), entry_scan(s)) {
@@ -109,33 +117,33 @@ fn waiting_count(s: Set) -> usize
 }
 
 // The step along the waiting list at which it meets a timer that does not wait, ends too soon, or goes on too long.
-fn list_scan(s: Set) -> Scan
-    ensures { λ r. ⌜ scanned r ≡ listScan s ⌝ }
+fn list_scan(s: Set) -> Walk
+    ensures { λ r. ⌜ walked r ≡ listScan s ⌝ }
 {
     let mut left = waiting_count(s);
     let mut step: usize = 0;
     let mut at = s.first;
     while 0 < left {
         let First::At(place) = at else {
-            return Scan::At(step);
+            return Walk::At(step);
         };
         let p = place.0 as usize;
         if heap::CAP <= p {
-            return Scan::At(step);
+            return Walk::At(step);
         }
         let t = s.timers[p];
         let w = t.waiting;
         if !waits(w) {
-            return Scan::At(step);
+            return Walk::At(step);
         }
         at = after(w);
         left -= 1;
         step += 1;
     }
     if let First::Nothing = at {
-        Scan::Fine
+        Walk::Fine
     } else {
-        Scan::At(step)
+        Walk::At(step)
     }
 }
 
@@ -149,7 +157,7 @@ fn lower(a: Scan, b: Scan) -> Scan
     let Scan::At(q) = b else {
         return a;
     };
-    if p <= q { a } else { b }
+    if p.0 <= q.0 { a } else { b }
 }
 
 // Whether a timer neither waits nor names a slot.
@@ -217,26 +225,26 @@ fn place_scan(s: Set) -> Scan
     let closed = s.closed;
     let mut p: usize = 0;
     while p < heap::CAP {
+        let place = Place(p as u16);
         let t = s.timers[p];
         if !timer_ok(closed, t) {
-            return Scan::At(p);
+            return Scan::At(place);
         }
         let d = t.held;
         if let Held::At(slot) = d {
             let q = slot.0 as usize;
             if h.made <= q {
-                return Scan::At(p);
+                return Scan::At(place);
             }
             let x = h.slots[q];
             let st = x.state;
             let SlotState::Full(pos) = st else {
-                return Scan::At(p);
+                return Scan::At(place);
             };
             let i = pos.0 as usize;
             let e = h.entries[i];
-            let o = e.place.0 as usize;
-            if o != p {
-                return Scan::At(p);
+            if e.place.0 != place.0 {
+                return Scan::At(place);
             }
         }
         p += 1;
@@ -267,14 +275,15 @@ fn entry_scan(s: Set) -> Scan
     let mut i: usize = 0;
     while i < h.len {
         let e = h.entries[i];
-        let p = e.place.0 as usize;
+        let place = e.place;
+        let p = place.0 as usize;
         if heap::CAP <= p {
-            low = lower(low, Scan::At(p));
+            low = lower(low, Scan::At(place));
         } else {
             let t = s.timers[p];
             let d = t.held;
             if !entry_ok(e, d) {
-                low = lower(low, Scan::At(p));
+                low = lower(low, Scan::At(place));
             }
         }
         i += 1;

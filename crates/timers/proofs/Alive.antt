@@ -15,6 +15,7 @@ use Rattle.refusals.specs.Answer.{Outcome, kept}
 use Rattle.refusals.specs.declared.time.Time.{Time}
 use Rattle.refusals.specs.Times as Times
 use Rattle.heap.specs.Capacity.{cap}
+use Rattle.heap.specs.declared.Place.{Place}
 use Rattle.word.specs.Rules.{firedIn}
 use Rattle.interval.specs.declared.Policy.{Policy}
 use Rattle.interval.specs.Rules.{tickOf, restartOf}
@@ -82,6 +83,6 @@ first-in ok (suc n) k i e = go (ok k) e (first-in ok n (k + 1) i)
     go false e r = let q : k ≡ i = cc in omega arith
 
 -- a free place that was found is in range
-pub free-place : (s : Set) {r : Spot} {p : ℕ} → r ≡ S.At p → spotOf r ≡ lowestFree s → p < cap
+pub free-place : (s : Set) {r : Spot} {p : Place} → r ≡ S.At p → spotOf r ≡ lowestFree s → p .0 < cap
 unfolding lowestFree
-free-place s {p = p} q e = first-in (taken s) cap 0 p (sym e ∙ ap spotOf q)
+free-place s {p = p} q e = first-in (taken s) cap 0 (p .0) (sym e ∙ ap spotOf q)

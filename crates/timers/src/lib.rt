@@ -2,7 +2,6 @@
 //
 // Every call takes any set. It tests the set's soundness first, then whether it may be made; a call that is refused hands back the
 // set, and leaves the lent list as it was. `perform` makes a call by its name.
-use heap::Place;
 use interval::Policy;
 use refusals::Refusal;
 use refusals::time::Time;
@@ -120,13 +119,14 @@ pub fn add(s: Set, due: u64) -> After
     }
     match moves::list::lowest_free(s) {
         moves::list::Spot::Nowhere => refused(s, Refusal::Full),
-        moves::list::Spot::At(p) => {
+        moves::list::Spot::At(place) => {
+            let p = place.0 as usize;
             let t = s.timers[p];
-            let g = moves::list::touched(s, p, Life::Live { word: 0, due });
+            let g = moves::list::touched(s, place, Life::Live { word: 0, due });
             After {
                 set: g,
                 reply: Reply::Added(Handle {
-                    place: Place(p as u16),
+                    place,
                     uses: t.uses,
                 }),
             }
@@ -160,8 +160,7 @@ pub fn cancel(s: Set, handle: Handle) -> After
     match named(s, handle) {
         Timing::Dead => refused(s, Refusal::DeadHandle),
         Timing::Live { word, due: _ } => {
-            let p = handle.place.0 as usize;
-            let g = moves::list::touched(s, p, Life::Cancelled { word });
+            let g = moves::list::touched(s, handle.place, Life::Cancelled { word });
             After {
                 set: g,
                 reply: Reply::Done,
@@ -375,9 +374,8 @@ fn reset_to(s: Set, handle: Handle, word: u32, due: u64) -> Set
     requires { ⌜ handle .place .0 < cap ⌝ }
     ensures { λ r. ⌜ ResetsTo s handle word due r ⌝ }
 {
-    let p = handle.place.0 as usize;
     let w = word::after_reset(word);
-    moves::list::touched(s, p, Life::Live { word: w, due })
+    moves::list::touched(s, handle.place, Life::Live { word: w, due })
 }
 
 // A call refused: the set as it was handed in.

@@ -10,4 +10,4 @@ unfolding addedOf
 returns c = c .put .ensures
 
 pub added-spec : {M : Type 1} → statement M
-added-spec = tie.close (tie.spec (λ c. search needs) (λ c κs. search needs) returns)
+added-spec = tie.close (tie.spec (λ c. search needs) (λ c. search needs) (λ c κs. search needs) returns)

@@ -18,29 +18,29 @@ unfolding filledOf
 returns c = simp (eq-eqb _ _ (c .if1 .taken))
 
 -- a hole that was not last is one of the shorter heap's positions; up goes an entry that is smaller than the removed one
-up-from : (c : tie.Then2) → (c .before .before .before .before .before .args .p < c .before .before .before .before .before .args .t1 .len - 1) × (before (entryAt (c .before .before .before .before .before .args .t1) (c .before .before .before .before .before .args .t1 .len - 1)) (entryAt (c .before .before .before .before .before .args .t1) (c .before .before .before .before .before .args .p)) ≡ true)
+up-from : (c : tie.Then2) → (c .before .before .before .before .before .before .args .pos .0 < c .before .before .before .before .before .before .args .t1 .len - 1) × (before (entryAt (c .before .before .before .before .before .before .args .t1) (c .before .before .before .before .before .before .args .t1 .len - 1)) (entryAt (c .before .before .before .before .before .before .args .t1) (c .before .before .before .before .before .before .args .pos .0)) ≡ true)
 up-from c = (omega arith, sym (c .before .before2 .ensures) ∙ c .if2 .taken)
 
 -- and down one that is not
-down-from : (c : tie.Else2) → (c .before .before .before .before .before .args .p < c .before .before .before .before .before .args .t1 .len - 1) × (before (entryAt (c .before .before .before .before .before .args .t1) (c .before .before .before .before .before .args .t1 .len - 1)) (entryAt (c .before .before .before .before .before .args .t1) (c .before .before .before .before .before .args .p)) ≡ false)
+down-from : (c : tie.Else2) → (c .before .before .before .before .before .before .args .pos .0 < c .before .before .before .before .before .before .args .t1 .len - 1) × (before (entryAt (c .before .before .before .before .before .before .args .t1) (c .before .before .before .before .before .before .args .t1 .len - 1)) (entryAt (c .before .before .before .before .before .before .args .t1) (c .before .before .before .before .before .before .args .pos .0)) ≡ false)
 down-from c = (omega arith, sym (c .before .before2 .ensures) ∙ c .if2 .left)
 
 put-requires : tie.Need-put-requires
-put-requires c κs = (omega arith, last-in _ (c .before .before .before .before .before .pre .1) _ (c .before .before .before .before .before .pre .0))
+put-requires c κs = (omega arith, last-in _ (c .before .before .before .before .before .before .pre .1) _ (c .before .before .before .before .before .before .pre .0))
 
 percolate-up-requires : tie.Need-percolate-up-requires
 percolate-up-requires c κs = (
   rw (ap (λ (g : Heap). g .len) (c .put .ensures), len-put) (up-from (c .before) .0),
-  rw (c .put .ensures) (slots-in-filled _ _ (c .before .before .before .before .before .before .pre .0) (c .before .before .before .before .before .before .pre .1)),
+  rw (c .put .ensures) (slots-in-filled _ _ (c .before .before .before .before .before .before .before .pre .0) (c .before .before .before .before .before .before .before .pre .1)),
 )
 
 put-requires-2 : tie.Need-put-requires-2
-put-requires-2 c κs = (omega arith, last-in _ (c .before .before .before .before .before .pre .1) _ (c .before .before .before .before .before .pre .0))
+put-requires-2 c κs = (omega arith, last-in _ (c .before .before .before .before .before .before .pre .1) _ (c .before .before .before .before .before .before .pre .0))
 
 percolate-down-requires : tie.Need-percolate-down-requires
 percolate-down-requires c κs = (
   rw (ap (λ (g : Heap). g .len) (c .put2 .ensures), len-put) (down-from (c .before) .0),
-  rw (c .put2 .ensures) (slots-in-filled _ _ (c .before .before .before .before .before .before .pre .0) (c .before .before .before .before .before .before .pre .1)),
+  rw (c .put2 .ensures) (slots-in-filled _ _ (c .before .before .before .before .before .before .before .pre .0) (c .before .before .before .before .before .before .before .pre .1)),
 )
 
 returns-2 : tie.Need-returns-2

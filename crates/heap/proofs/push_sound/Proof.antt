@@ -4,6 +4,7 @@ use mathlib.Core.Path.{_∙_, ap}
 use Prim.Native.Nat.{_+_}
 use native.Mathlib.Omega.{arith}
 use borrow.Author.Tests.{lt-ltb, le-ltb}
+use borrow.Author.Needs.{needs}
 use Rattle.heap.specs.declared.Heap.{Heap}
 use Rattle.heap.specs.Rules.{pushedOf}
 use Rattle.heap.specs.Calls.{pushSound}
@@ -39,4 +40,4 @@ returns-2 c =
 
 pub push-sound-spec : {M : Type 1} → statement M
 push-sound-spec =
-    tie.close (tie.spec returns taken-requires added-requires percolate-up-requires returns-2)
+    tie.close (tie.spec returns taken-requires added-requires (λ c. search needs) percolate-up-requires returns-2)

@@ -5,10 +5,10 @@ use Rattle.replay.proofs.replayed.Statement.{statement}
 use Rattle.replay.proofs.replayed.Tie as tie
 
 abbrev Inv-loop : tie.InvT-loop
-Inv-loop s₀ turns₀ left₀ s turns left = Unit {0}
+Inv-loop s₀ turns₀ course₀ s turns course = Unit {0}
 
 abbrev μ-loop : tie.MeasureT-loop
-μ-loop s₀ turns₀ left₀ s turns left = turns
+μ-loop s₀ turns₀ course₀ s turns course = turns
 
 pub replayed-spec : {M : Type 1} → statement M
 replayed-spec =
@@ -19,6 +19,7 @@ replayed-spec =
     (λ c κs. search needs)
     (λ c. search needs)
     (λ c κs. search needs)
+    (λ c. search needs)
     (λ c. search needs)
     (λ c. search needs)
     (λ c. search needs)

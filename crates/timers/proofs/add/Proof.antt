@@ -15,21 +15,15 @@ returns c = c .refused .ensures ∙ sym (turned-away _ _ (c .before .before .why
 
 mul-t : tie.Need-mul-t
 mul-t c =
-    let f = c .before in
-    let l : f .p .given .0 .0 < cap = free-place _ (f .p .given .1) (f .before .before .lowest-free .ensures) in
+    let f = c .before .before in
+    let l : f .place .given .0 .0 .0 < cap = free-place _ (f .place .given .1) (f .before .before .lowest-free .ensures) in
     search (needs, l)
 
 element-copy-out-t : tie.Need-element-copy-out-t
-element-copy-out-t c = free-place _ (c .before .p .given .1) (c .before .before .before .lowest-free .ensures)
+element-copy-out-t c = free-place _ (c .before .before .place .given .1) (c .before .before .before .before .lowest-free .ensures)
 
 touched-requires : tie.Need-touched-requires
-touched-requires c κs = free-place _ (c .before .before .p .given .1) (c .before .before .before .before .lowest-free .ensures)
-
-cast-t21 : tie.Need-cast-t21
-cast-t21 c =
-    let f = c .before .before .before in
-    let l : f .p .given .0 .0 < cap = free-place _ (f .p .given .1) (f .before .before .lowest-free .ensures) in
-    search (needs, l)
+touched-requires c κs = free-place _ (c .before .before .before .place .given .1) (c .before .before .before .before .before .lowest-free .ensures)
 
 returns-2 : tie.Need-returns-2
 unfolding addOf
@@ -43,11 +37,11 @@ returns-2 c =
 returns-3 : tie.Need-returns-3
 unfolding addOf
 returns-3 c =
-    let n = c .before .before .before .before .before in
+    let n = c .before .before .before .before .before .before in
     rw (c .touched .ensures)
     (sym
     (let-through _ _ (n .before .enum-told .given .1) (n .before .before .before .opened .ensures)
-    ∙ as-placed _ _ (c .before .before .before .p .given .1) (n .lowest-free .ensures)))
+    ∙ as-placed _ _ (c .before .before .before .before .place .given .1) (n .lowest-free .ensures)))
 
 pub add-spec : {M : Type 1} → statement M
 add-spec =
@@ -62,9 +56,9 @@ add-spec =
     (λ c. search needs)
     (λ c κs. search needs)
     (λ c. search needs)
+    (λ c. search needs)
     mul-t
     element-copy-out-t
     touched-requires
-    cast-t21
     returns-2
     returns-3)

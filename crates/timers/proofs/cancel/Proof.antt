@@ -13,7 +13,7 @@ unfolding cancelOf
 returns c = c .refused .ensures ∙ sym (turned-away _ _ (c .before .before .why .given .1) (c .before .before .before .before .opened .ensures))
 
 touched-requires : tie.Need-touched-requires
-touched-requires c κs = live-place _ _ (c .before .before .word .given .1) (c .before .before .before .before .named .ensures)
+touched-requires c κs = live-place _ _ (c .before .word .given .1) (c .before .before .before .named .ensures)
 
 returns-2 : tie.Need-returns-2
 unfolding cancelOf
@@ -27,7 +27,7 @@ returns-2 c =
 returns-3 : tie.Need-returns-3
 unfolding cancelOf
 returns-3 c =
-    let w = c .before .before .before in
+    let w = c .before .before in
     let n = w .before .before in
     ap (λ (g : Set). gives g nothing) (c .touched .ensures)
     ∙ sym
@@ -46,7 +46,6 @@ cancel-spec =
     (λ c κs. search needs)
     (λ c. search needs)
     (λ c κs. search needs)
-    (λ c. search needs)
     (λ c. search needs)
     touched-requires
     returns-2

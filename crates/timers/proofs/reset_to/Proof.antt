@@ -8,4 +8,4 @@ returns : tie.Need-returns
 returns c = rw (c .touched .ensures, c .before .after-reset .ensures)
 
 pub reset-to-spec : {M : Type 1} → statement M
-reset-to-spec = tie.close (tie.spec (λ c. search needs) (λ c κs. search needs) (λ c κs. search needs) returns)
+reset-to-spec = tie.close (tie.spec (λ c κs. search needs) (λ c κs. search needs) returns)

@@ -12,7 +12,7 @@ use Rattle.heap.proofs.fault.chain_fault.Statement.{statement}
 use Rattle.heap.proofs.fault.chain_fault.Tie as tie
 
 abbrev Inv-loop : tie.InvT-loop
-Inv-loop h left₀ step₀ at₀ left step at = (step + left ≤ h .made) × (chainFrom h left step at ≡ chainFault h)
+Inv-loop h left₀ step₀ at₀ left step at = (step + left ≤ h .made) × (chainFrom h left step (at .0) ≡ chainFault h)
 
 abbrev μ-loop : tie.MeasureT-loop
 μ-loop h left₀ step₀ at₀ left step at = left
@@ -21,26 +21,26 @@ sub-left : tie.Need-sub-left Inv-loop μ-loop
 sub-left c = omega (arith, count-le (fullAt (c .args .t1)) (c .args .t1 .made), c .pre .counted)
 
 loop-holds : tie.Need-loop-holds Inv-loop μ-loop
-loop-holds c = (omega arith, chain-starts (c .args .t1) (c .pre))
+loop-holds c = (omega arith, chain-starts (c .before .args .t1) (c .before .pre))
 
 returns : tie.Need-returns Inv-loop μ-loop
-returns c = sym (chain-past (c .before .before .before .args .t1) (omega arith) (c .if1 .taken)) ∙ c .before .before .loop .inv .1
+returns c = sym (chain-past (c .before .before .before .before .before .args .t1) (omega arith) (c .if1 .taken)) ∙ c .before .before .before .loop .inv .1
 
 returns-2 : tie.Need-returns-2 Inv-loop μ-loop
 returns-2 c =
-    sym (chain-full (c .before .before .before .before .before .before .args .t1) (omega arith) (c .before .before .before .if1 .left) (c .enum-told .given .1))
-    ∙ c .before .before .before .before .before .loop .inv .1
+    sym (chain-full (c .before .before .before .before .before .before .before .before .args .t1) (omega arith) (c .before .before .before .if1 .left) (c .enum-told .given .1))
+    ∙ c .before .before .before .before .before .before .loop .inv .1
 
 loop-again : tie.Need-loop-again Inv-loop μ-loop
 loop-again c =
     let l = c .before .before .before .before .before .before .before .loop in
-    (omega arith, chain-goes (c .before .before .before .before .before .before .before .before .args .t1) (l .step) (omega arith) (c .before .before .before .before .before .if1 .left) (c .before .before .st .given .1) ∙ l .inv .1)
+    (omega arith, chain-goes (c .before .before .before .before .before .before .before .before .before .args .t1) (l .step) (omega arith) (c .before .before .before .before .if1 .left) (c .before .st .given .1) ∙ l .inv .1)
 
 returns-3 : tie.Need-returns-3 Inv-loop μ-loop
-returns-3 c = sym (chain-ends (c .before .before .before .args .t1) _ (omega arith) (c .if2 .taken)) ∙ c .before .before .loop .inv .1
+returns-3 c = sym (chain-ends (c .before .before .before .before .before .args .t1) _ (omega arith) (c .if2 .taken)) ∙ c .before .before .before .loop .inv .1
 
 returns-4 : tie.Need-returns-4 Inv-loop μ-loop
-returns-4 c = sym (chain-long (c .before .before .before .args .t1) (omega arith) (c .if2 .left)) ∙ c .before .before .loop .inv .1
+returns-4 c = sym (chain-long (c .before .before .before .before .before .args .t1) (omega arith) (c .if2 .left)) ∙ c .before .before .before .loop .inv .1
 
 pub chain-fault-spec : {M : Type 1} → statement M
 chain-fault-spec =
@@ -49,8 +49,8 @@ chain-fault-spec =
     Inv-loop
     μ-loop
     sub-left
-    (λ c. search needs)
     loop-holds
+    (λ c. search needs)
     returns
     (λ c. search needs)
     (λ c. search needs)
@@ -60,7 +60,7 @@ chain-fault-spec =
     (λ c. search needs)
     (λ c. search needs)
     (λ c. search needs)
-    (λ c. search needs)
     loop-again
+    (λ c. search needs)
     returns-3
     returns-4)

@@ -9,6 +9,7 @@ use native.Mathlib.Omega.{arith}
 use lib.Dec.{ltb}
 use borrow.Author.Tests.{lt-ltb, le-ltb, not-true, not-false}
 use Rattle.heap.specs.Capacity.{cap}
+use Rattle.heap.specs.declared.Pos.{Pos}
 use Rattle.heap.specs.declared.Heap.{Heap}
 use Rattle.heap.specs.Rules.{slotAt, putAt, swapAt, moved, childOf, downFrom}
 use Rattle.heap.specs.Sound.{SlotsIn}
@@ -26,13 +27,21 @@ record Down (from : ℕ) (h g : Heap) (i n : ℕ) : Type 0 where
   pub rest : downFrom (h .len - n) g i n ≡ downFrom (h .len) h from 0
 
 abbrev Inv-loop : tie.InvT-loop
-Inv-loop from len g₀ i₀ n₀ g i n = Down from g₀ g i n
+Inv-loop len g₀ at₀ n₀ g at n = Down (at₀ .0) g₀ g (at .0) n
 
 abbrev μ-loop : tie.MeasureT-loop
-μ-loop from len g₀ i₀ n₀ g i n = g₀ .len - i
+μ-loop len g₀ at₀ n₀ g at n = g₀ .len - at .0
 
 loop-holds : tie.Need-loop-holds Inv-loop μ-loop
 loop-holds c = record { range = c .pre .1; as-long = refl; here = search needs; passed = search needs; rest = simp sub-zero }
+
+-- equal positions are equal numbers
+number : {p q : Pos} → p ≡ q → p .0 ≡ q .0
+number e = ap (λ (x : Pos). x .0) e
+
+-- where the entry stands is a position of the heap
+within : (c : tie.At-loop Inv-loop μ-loop) → c .loop .at .0 < cap
+within c = omega (arith, c .loop .inv .here, c .loop .inv .as-long, c .loop .inv .range .len-in)
 
 -- a position is in the heap where it is below the length, which no turn changes
 has : (c : tie.At-loop Inv-loop μ-loop) (k : ℕ) → k < c .before .args .h .len → ltb k (c .loop .g .len) ≡ true
@@ -43,41 +52,48 @@ lacks : (c : tie.At-loop Inv-loop μ-loop) (k : ℕ) → c .before .args .h .len
 lacks c k b = le-ltb k (c .loop .g .len) (omega (arith, b, c .loop .inv .as-long))
 
 -- where the arms meet, the entry goes to the child of the rules
-chosen : (c : tie.Joined2 Inv-loop μ-loop) → c .if2 .c ≡ childOf (c .before .before .before .before .loop .g) (c .before .before .before .before .loop .i)
+chosen : (c : tie.Joined2 Inv-loop μ-loop) → c .if2 .child .0 ≡ childOf (c .before .before .before .before .before .before .before .before .before .loop .g) (c .before .before .before .before .before .before .before .before .before .loop .at .0)
 chosen c =
-    let l = c .before .before .before .before in
+    let l = c .before .before .before .before .before .before .before .before .before in
     let e = has l _ (c .before .before .before .if1 .left) in
-    ⊎-elim (λ w. w .3 ∙ sym (child-picks _ _ e (lacks l _ (w .0 .taken)) (sym (w .1 .ensures) ∙ not-false _ (w .2 .left)) refl refl))
-    (⊎-elim (λ w. w .6 ∙ sym (child-picks _ _ e (has l _ (w .0 .left)) (sym (w .2 .ensures) ∙ w .3 .taken) (sym (w .4 .ensures) ∙ w .5 .taken) refl))
-    (⊎-elim (λ w. w .6 ∙ sym (child-picks _ _ e (has l _ (w .0 .left)) (sym (w .2 .ensures) ∙ w .3 .taken) (sym (w .4 .ensures) ∙ w .5 .left) refl))
-    (λ w. w .6 ∙ sym (child-picks _ _ e (has l _ (w .0 .left)) (sym (w .2 .ensures) ∙ w .3 .left) refl (sym (w .4 .ensures) ∙ w .5 .taken)))))
+    ⊎-elim (λ w. number (w .3) ∙ sym (child-picks _ _ e (lacks l _ (w .0 .taken)) (sym (w .1 .ensures) ∙ not-false _ (w .2 .left)) refl refl))
+    (⊎-elim (λ w. number (w .6) ∙ sym (child-picks _ _ e (has l _ (w .0 .left)) (sym (w .2 .ensures) ∙ w .3 .taken) (sym (w .4 .ensures) ∙ w .5 .taken) refl))
+    (⊎-elim (λ w. number (w .6) ∙ sym (child-picks _ _ e (has l _ (w .0 .left)) (sym (w .2 .ensures) ∙ w .3 .taken) (sym (w .4 .ensures) ∙ w .5 .left) refl))
+    (λ w. number (w .6) ∙ sym (child-picks _ _ e (has l _ (w .0 .left)) (sym (w .2 .ensures) ∙ w .3 .left) refl (sym (w .4 .ensures) ∙ w .5 .taken)))))
     (c .if2 .came)
 
 -- it stands below the entry, and in the heap
-lower : (c : tie.Joined2 Inv-loop μ-loop) → (c .before .before .before .before .loop .i < c .if2 .c) × (c .if2 .c < c .before .before .before .before .loop .g .len) × (c .before .before .before .before .loop .g .len ≤ cap)
+lower : (c : tie.Joined2 Inv-loop μ-loop) → (c .before .before .before .before .before .before .before .before .before .loop .at .0 < c .if2 .child .0) × (c .if2 .child .0 < c .before .before .before .before .before .before .before .before .before .loop .g .len) × (c .before .before .before .before .before .before .before .before .before .loop .g .len ≤ cap)
 lower c =
-    let l = c .before .before .before .before .loop in
-    ⊎-elim (λ w. omega (arith, w .3, c .before .before .before .if1 .left, l .inv .as-long, l .inv .range .len-in))
-    (⊎-elim (λ w. omega (arith, w .0 .left, w .6, l .inv .as-long, l .inv .range .len-in))
-    (⊎-elim (λ w. omega (arith, w .0 .left, w .6, l .inv .as-long, l .inv .range .len-in))
-    (λ w. omega (arith, w .0 .left, w .6, l .inv .as-long, l .inv .range .len-in))))
+    let l = c .before .before .before .before .before .before .before .before .before .loop in
+    ⊎-elim (λ w. omega (arith, number (w .3), c .before .before .before .if1 .left, l .inv .as-long, l .inv .range .len-in))
+    (⊎-elim (λ w. omega (arith, w .0 .left, number (w .6), l .inv .as-long, l .inv .range .len-in))
+    (⊎-elim (λ w. omega (arith, w .0 .left, number (w .6), l .inv .as-long, l .inv .range .len-in))
+    (λ w. omega (arith, w .0 .left, number (w .6), l .inv .as-long, l .inv .range .len-in))))
     (c .if2 .came)
 
 -- the slots of both are in the slab
-both-in : (c : tie.Joined2 Inv-loop μ-loop) → (slotAt (c .before .before .before .before .loop .g) (c .before .before .before .before .loop .i) < cap) × (slotAt (c .before .before .before .before .loop .g) (c .if2 .c) < cap)
+both-in : (c : tie.Joined2 Inv-loop μ-loop) → (slotAt (c .before .before .before .before .before .before .before .before .before .loop .g) (c .before .before .before .before .before .before .before .before .before .loop .at .0) < cap) × (slotAt (c .before .before .before .before .before .before .before .before .before .loop .g) (c .if2 .child .0) < cap)
 both-in c =
-    let l = c .before .before .before .before .loop in
-    (l .inv .range .slots-in (l .i) (omega (arith, lower c)), l .inv .range .slots-in (c .if2 .c) (lower c .1))
+    let l = c .before .before .before .before .before .before .before .before .before .loop in
+    (l .inv .range .slots-in (l .at .0) (omega (arith, lower c)), l .inv .range .slots-in (c .if2 .child .0) (lower c .1))
 
--- where the loop ends, the entry has no child to go to
-stays : (c : tie.Joined1 Inv-loop μ-loop) → (c .if1 .last ≡ c .before .loop .i) × (childOf (c .before .loop .g) (c .before .loop .i) ≡ c .before .loop .i)
-stays c =
-    let l = c .before in
-    ⊎-elim (λ w. (w .1, child-picks _ _ (lacks l _ (w .0 .taken)) refl refl refl refl))
-    (⊎-elim
-    (λ w. (w .6, child-picks _ _ (has l _ (w .0 .left)) (lacks l _ (w .3 .taken)) (sym (w .4 .ensures) ∙ not-true _ (w .5 .taken)) refl refl))
-    (λ w. (w .9, child-picks _ _ (has l _ (w .0 .left)) (has l _ (w .3 .left)) (sym (w .5 .ensures) ∙ w .6 .left) refl (sym (w .7 .ensures) ∙ w .8 .left))))
-    (c .if1 .came)
+-- where the loop ends, the entry has no child to go to, and nothing is left of the way
+ends : (c : tie.At-loop Inv-loop μ-loop) → childOf (c .loop .g) (c .loop .at .0) ≡ c .loop .at .0
+    → moved (c .loop .g) (c .loop .at .0) (c .loop .n) ≡ downFrom (c .before .args .h .len) (c .before .args .h) (c .before .args .from .0) 0
+ends c e = sym (down-stop _ (c .loop .g) (c .loop .at .0) (c .loop .n) e) ∙ c .loop .inv .rest
+
+mul-t22 : tie.Need-mul-t22 Inv-loop μ-loop
+mul-t22 c = omega (arith, within (c .before))
+
+add-t23 : tie.Need-add-t23 Inv-loop μ-loop
+add-t23 c = omega (arith, within (c .before))
+
+mul-t22-2 : tie.Need-mul-t22-2 Inv-loop μ-loop
+mul-t22-2 c = omega (arith, within (c .before .before))
+
+add-t23-2 : tie.Need-add-t23-2 Inv-loop μ-loop
+add-t23-2 c = omega (arith, within (c .before .before))
 
 mul-f : tie.Need-mul-f Inv-loop μ-loop
 mul-f c = omega (arith, lower (c .before))
@@ -97,9 +113,6 @@ mul-f-2 c = omega (arith, lower (c .before .before .before .before))
 element-set-from-f : tie.Need-element-set-from-f Inv-loop μ-loop
 element-set-from-f c = omega (arith, lower (c .before .before .before .before))
 
-cast-t38 : tie.Need-cast-t38 Inv-loop μ-loop
-cast-t38 c = omega (arith, lower (c .before .before .before .before))
-
 mul-g : tie.Need-mul-g Inv-loop μ-loop
 mul-g c = omega (arith, both-in (c .before .before .before .before))
 
@@ -112,50 +125,56 @@ mul-e-2 c = omega (arith, lower (c .before .before .before .before))
 element-set-from-e : tie.Need-element-set-from-e Inv-loop μ-loop
 element-set-from-e c = omega (arith, lower (c .before .before .before .before))
 
-cast-t38-2 : tie.Need-cast-t38-2 Inv-loop μ-loop
-cast-t38-2 c = omega (arith, lower (c .before .before .before .before))
-
-mul-t18 : tie.Need-mul-t18 Inv-loop μ-loop
-mul-t18 c = omega (arith, both-in (c .before .before .before .before))
+mul-t25 : tie.Need-mul-t25 Inv-loop μ-loop
+mul-t25 c = omega (arith, both-in (c .before .before .before .before))
 
 element-set-from-g-2 : tie.Need-element-set-from-g-2 Inv-loop μ-loop
 element-set-from-g-2 c = both-in (c .before .before .before .before) .0
 
 add-n : tie.Need-add-n Inv-loop μ-loop
-add-n c = omega (arith, c .before .before .before .before .before .before .before .before .loop .inv .passed, lower (c .before .before .before .before))
+add-n c = omega (arith, c .before .before .before .before .before .before .before .before .before .before .before .before .before .loop .inv .passed, lower (c .before .before .before .before))
 
 loop-less : tie.Need-loop-less Inv-loop μ-loop
-loop-less c = omega (arith, c .before .before .before .before .before .before .before .before .loop .inv .here, c .before .before .before .before .before .before .before .before .loop .inv .as-long, lower (c .before .before .before .before))
+loop-less c = omega (arith, c .before .before .before .before .before .before .before .before .before .before .before .before .before .loop .inv .here, c .before .before .before .before .before .before .before .before .before .before .before .before .before .loop .inv .as-long, lower (c .before .before .before .before))
 
 loop-again : tie.Need-loop-again Inv-loop μ-loop
 unfolding swapAt putAt
 loop-again c =
-    let l = c .before .before .before .before .before .before .before .before .loop in
+    let l = c .before .before .before .before .before .before .before .before .before .before .before .before .before .loop in
     let v = l .inv in
-    let k = c .before .before .before .before .if2 .c in
-    let h = c .before .before .before .before .before .before .before .before .before .args .h in
+    let k = c .before .before .before .before .if2 .child .0 in
+    let h = c .before .before .before .before .before .before .before .before .before .before .before .before .before .before .args .h in
     let b = lower (c .before .before .before .before) in
     let e = chosen (c .before .before .before .before) in
     record {
-      range = slots-in-swap (l .g) (l .i) k (omega (arith, b)) (b .1) (v .range);
+      range = slots-in-swap (l .g) (l .at .0) k (omega (arith, b)) (b .1) (v .range);
       as-long = v .as-long;
       here = omega (arith, b, v .as-long);
       passed = omega (arith, b, v .passed);
       rest =
           sym
-          (subst (λ (x : ℕ). downFrom (h .len - l .n) (l .g) (l .i) (l .n) ≡ downFrom (h .len - (l .n + 1)) (swapAt (l .g) (l .i) x) x (l .n + 1)) (sym e)
-          (down-step _ _ (l .g) (l .i) (l .n) (omega (arith, v .passed, v .here)) (λ q. omega (arith, b, e, q))))
+          (subst (λ (x : ℕ). downFrom (h .len - l .n) (l .g) (l .at .0) (l .n) ≡ downFrom (h .len - (l .n + 1)) (swapAt (l .g) (l .at .0) x) x (l .n + 1)) (sym e)
+          (down-step _ _ (l .g) (l .at .0) (l .n) (omega (arith, v .passed, v .here)) (λ q. omega (arith, b, e, q))))
           ∙ v .rest;
     }
 
-cast-t49 : tie.Need-cast-t49 Inv-loop μ-loop
-cast-t49 c = omega (arith, stays (c .before) .0, c .before .before .loop .inv .here, c .before .before .loop .inv .as-long, c .before .before .loop .inv .range .len-in)
-
+-- there is no child
 returns : tie.Need-returns Inv-loop μ-loop
 returns c =
-    ap (λ (x : ℕ). moved (c .before .before .loop .g) x (c .before .before .loop .n)) (stays (c .before) .0)
-    ∙ sym (down-stop _ _ _ _ (stays (c .before) .1))
-    ∙ c .before .before .loop .inv .rest
+    let l = c .before .before .before .before .before .before in
+    ends l (child-picks _ _ (lacks l _ (c .if1 .taken)) refl refl refl refl)
+
+-- the only child is not smaller
+returns-2 : tie.Need-returns-2 Inv-loop μ-loop
+returns-2 c =
+    let l = c .before .before .before .before .before .before .before .before .before .before .before in
+    ends l (child-picks _ _ (has l _ (c .before .before .before .before .before .if1 .left)) (lacks l _ (c .before .before .if2 .taken)) (sym (c .before .before2 .ensures) ∙ not-true _ (c .if3 .taken)) refl refl)
+
+-- neither child is
+returns-3 : tie.Need-returns-3 Inv-loop μ-loop
+returns-3 c =
+    let l = c .before .before .before .before .before .before .before .before .before .before .before .before .before .before in
+    ends l (child-picks _ _ (has l _ (c .before .before .before .before .before .before .before .before .if1 .left)) (has l _ (c .before .before .before .before .before .if2 .left)) (sym (c .before .before .before .before3 .ensures) ∙ c .before .before .if4 .left) refl (sym (c .before .before5 .ensures) ∙ c .if6 .left))
 
 pub percolate-down-spec : {M : Type 1} → statement M
 percolate-down-spec =
@@ -164,7 +183,10 @@ percolate-down-spec =
     Inv-loop
     μ-loop
     loop-holds
-    (λ c. search needs)
+    mul-t22
+    add-t23
+    mul-t22-2
+    add-t23-2
     (λ c. search needs)
     (λ c. search needs)
     (λ c. search needs)
@@ -178,22 +200,22 @@ percolate-down-spec =
     (λ c κs. search needs)
     (λ c κs. search needs)
     (λ c κs. search needs)
+    (λ c. search needs)
     mul-f
     element-copy-out-f
     cast-s
     cast-t
     mul-f-2
     element-set-from-f
-    cast-t38
     mul-g
     element-set-from-g
     mul-e-2
     element-set-from-e
-    cast-t38-2
-    mul-t18
+    mul-t25
     element-set-from-g-2
     add-n
     loop-less
     loop-again
-    cast-t49
-    returns)
+    returns
+    returns-2
+    returns-3)

@@ -59,6 +59,7 @@ lowest-free-spec =
     (λ c. search needs)
     (λ c. search needs)
     (λ c κs. search needs)
+    (λ c. search needs)
     returns
     (λ c. search needs)
     (λ c. search needs)

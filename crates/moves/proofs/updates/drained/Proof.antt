@@ -28,20 +28,20 @@ loop-holds : tie.Need-loop-holds Inv-loop μ-loop
 loop-holds c = record { rest = refl; sound = c .pre }
 
 settled-requires : tie.Need-settled-requires Inv-loop μ-loop
-settled-requires c κs = c .before .before .before .before .before .loop .inv .sound
+settled-requires c κs = c .before .before .before .before .loop .inv .sound
 
 -- one turn fewer
-goes : (c : tie.After-settled Inv-loop μ-loop) → drainFrom (c .before .before .before .before .before .before .loop .left - 1) (c .settled .result)
-    ≡ drainFrom (c .before .before .before .before .before .before .loop .left) (c .before .before .before .before .before .before .loop .g)
+goes : (c : tie.After-settled Inv-loop μ-loop) → drainFrom (c .before .before .before .before .before .loop .left - 1) (c .settled .result)
+    ≡ drainFrom (c .before .before .before .before .before .loop .left) (c .before .before .before .before .before .loop .g)
 goes c =
-    let l = c .before .before .before .before .before .before .loop in
+    let l = c .before .before .before .before .before .loop in
     let m : suc (l .left - 1) ≡ l .left = omega arith in
-    ap (drainFrom (l .left - 1)) (c .settled .ensures) ∙ sym (drain-goes (l .left - 1) (l .g) (c .before .before .before .f .given .1))
+    ap (drainFrom (l .left - 1)) (c .settled .ensures) ∙ sym (drain-goes (l .left - 1) (l .g) (c .before .before .f .given .1))
     ∙ ap (λ k. drainFrom k (l .g)) m
 
 loop-again : tie.Need-loop-again Inv-loop μ-loop
 loop-again c =
-    let l = c .before .before .before .before .before .before .loop in
+    let l = c .before .before .before .before .before .loop in
     record { rest = goes c ∙ l .inv .rest; sound = rw (c .settled .ensures) (settled-heap (l .g) _ (l .inv .sound)) }
 
 -- no turn is left
@@ -65,7 +65,6 @@ drained-spec =
     Inv-loop
     μ-loop
     loop-holds
-    (λ c. search needs)
     (λ c. search needs)
     (λ c. search needs)
     settled-requires

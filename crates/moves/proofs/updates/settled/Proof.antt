@@ -13,40 +13,41 @@ use Rattle.moves.proofs.updates.settled.Tie as tie
 
 returns : tie.Need-returns
 returns c =
-    let s = c .before .before .before .args .s in
+    let s = c .before .before .before .before .args .s in
     let n : length (s .timers) ≡ cap = search (needs, unmapped) in
-    sym (settled-out s (c .before .before .before .args .p) (omega arith))
+    sym (settled-out s (c .before .before .before .before .args .place .0) (omega arith))
 
 push-sound-requires : tie.Need-push-sound-requires
 push-sound-requires c κs =
-    let a = c .before .before .before .before .before .before .before .before .before .before in
-    rw (c .before .dropped .ensures) (dropped-sound (a .args .s .heap) (a .pre) (timerAt (a .args .s) (a .args .p) .held))
+    let a = c .before .before .before .before .before .before .before .before .before .before .before in
+    rw (c .before .dropped .ensures) (dropped-sound (a .args .s .heap) (a .pre) (timerAt (a .args .s) (a .args .place .0) .held))
 
 returns-2 : tie.Need-returns-2
 returns-2 c =
-    let a = c .before .before .before .before .before .before .before .before .before .before .before .before .before .args in
+    let a = c .before .before .before .before .before .before .before .before .before .before .before .before .before .before .args in
     rw (c .held-by .ensures, c .before .before .before .before .before .before .before .before .after .ensures)
-    (sym (settled-live (a .s) (a .p) (c .before .before .before .before .before .before .l .given .1) (c .before .before .before .before .dropped .ensures) (c .before .before .before .generation .ensures) (c .before .before .push-sound .ensures)))
+    (sym (settled-live (a .s) (a .place .0) (c .before .before .before .before .before .before .l .given .1) (c .before .before .before .before .dropped .ensures) (c .before .before .before .generation .ensures) (c .before .before .push-sound .ensures)))
 
 returns-3 : tie.Need-returns-3
 returns-3 c =
-    let a = c .before .before .before .before .before .before .before .before .before .args in
-    rw (c .dropped2 .ensures, c .before .freed .ensures, c .before .before .before .before .after .ensures) (sym (settled-by (a .s) (a .p) (c .before .before .enum-told .given .1)))
+    let a = c .before .before .before .before .before .before .before .before .before .before .args in
+    rw (c .dropped2 .ensures, c .before .freed .ensures, c .before .before .before .before .after .ensures) (sym (settled-by (a .s) (a .place .0) (c .before .before .enum-told .given .1)))
 
 returns-4 : tie.Need-returns-4
 returns-4 c =
-    let a = c .before .before .before .before .before .before .before .args in
-    rw (c .before .before .after .ensures) (sym (settled-free (a .s) (a .p) (c .enum-told2 .given .1)))
+    let a = c .before .before .before .before .before .before .before .before .args in
+    rw (c .before .before .after .ensures) (sym (settled-free (a .s) (a .place .0) (c .enum-told2 .given .1)))
 
 returns-5 : tie.Need-returns-5
 returns-5 c =
-    let a = c .before .before .before .before .before .before .before .args in
-    rw (c .before .before .after .ensures) (sym (settled-retired (a .s) (a .p) (c .enum-told3 .given .1)))
+    let a = c .before .before .before .before .before .before .before .before .args in
+    rw (c .before .before .after .ensures) (sym (settled-retired (a .s) (a .place .0) (c .enum-told3 .given .1)))
 
 pub settled-spec : {M : Type 1} → statement M
 settled-spec =
     tie.close
     (tie.spec
+    (λ c. search needs)
     returns
     (λ c. search needs)
     (λ c. search needs)
@@ -54,7 +55,6 @@ settled-spec =
     (λ c. search needs)
     (λ c κs. search needs)
     (λ c κs. search needs)
-    (λ c. search needs)
     push-sound-requires
     (λ c κs. search needs)
     (λ c. search needs)

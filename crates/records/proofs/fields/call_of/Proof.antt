@@ -53,12 +53,12 @@ returns-10 : tie.Need-returns-10
 unfolding callOf
 returns-10 c =
     let r = c .match .rest in
-    let h : 9 ≤ c .before .args .f .operation =
+    let h : 9 ≤ c .before .before .args .f .operation =
     above 8 (above 7 (above 6 (above 5 (above 4 (above 3 (above 2 (above 1 (above 0 zero-le
     (r .0 .0 .0 .0 .0 .0 .0 .0 .1)) (r .0 .0 .0 .0 .0 .0 .0 .1)) (r .0 .0 .0 .0 .0 .0 .1)) (r .0 .0 .0 .0 .0 .1)) (r .0 .0 .0 .0 .1)) (r .0 .0 .0 .1))
     (r .0 .0 .1)) (r .0 .1)) (r .1)
     in
-    sym (List·getD-eq-default (table (c .before .args .f)) _ h)
+    sym (List·getD-eq-default (table (c .before .before .args .f)) _ h)
 
 pub call-of-spec : {M : Type 1} → statement M
 call-of-spec =

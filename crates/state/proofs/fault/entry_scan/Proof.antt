@@ -28,9 +28,9 @@ element-copy-out-e c = omega (arith, c .before .before .before .pre .len-in)
 
 loop-again : tie.Need-loop-again Inv-loop μ-loop
 loop-again c =
-    let s = c .before .before .before .before .before .before .args .t1 in
-    let i = c .before .before .before .before .loop .i in
-    let o = c .before .before .before .before .loop .inv .1 in
+    let s = c .before .before .before .before .before .before .before .args .t1 in
+    let i = c .before .before .before .before .before .loop .i in
+    let o = c .before .before .before .before .before .loop .inv .1 in
     let p = entryAt (s .heap) i .place .0 in (
       omega arith,
       ⊎-elim

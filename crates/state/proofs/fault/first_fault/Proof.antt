@@ -5,8 +5,7 @@ use mathlib.Core.Path.{_≡_, sym, ap, _∙_}
 use borrow.Author.Needs.{needs}
 use Rattle.theory.proofs.Stores.{unmapped}
 use Rattle.heap.proofs.FaultLaws.{is-fault}
-use Rattle.state.specs.declared.fault.Fault.the-variants.{Place}
-use Rattle.state.specs.Faults.{scanned, faultBy, faultOf}
+use Rattle.state.specs.Faults.{scanned, atPlace, faultBy, faultOf}
 use Rattle.state.proofs.FaultLaws.{heap-first, heap-sound, list-next, place-last}
 use Rattle.state.proofs.fault.first_fault.Statement.{statement}
 use Rattle.state.proofs.fault.first_fault.Tie as tie
@@ -29,17 +28,17 @@ entry-scan-requires c κs =
     heap-sound (c .before .before .before .before .before .before .before .before .args .s) (c .before .before .before .before .before .before .first-fault .ensures) (c .before .before .before .before .enum-told .given .1) (search (needs, unmapped)) (search (needs, unmapped))
 
 -- where heap and list have no fault, the places decide
-rest : (c : tie.After-lower) → faultBy Place (scanned (c .lower .result)) ≡ faultOf (c .before .before .before .before .before .before .before .before .before .before .args .s)
+rest : (c : tie.After-lower) → faultBy atPlace (scanned (c .lower .result)) ≡ faultOf (c .before .before .before .before .before .before .before .before .before .before .args .s)
 rest c =
     place-last (c .before .before .before .before .before .before .before .before .before .before .args .s) (c .before .before .before .before .before .before .before .before .first-fault .ensures) (c .before .before .before .before .before .before .enum-told .given .1)
     (c .before .before .place-scan .result) (c .before .entry-scan .result) (c .lower .result)
     (c .before .before .before .before .before .list-scan .ensures) (c .before .before .before .enum-told2 .given .1) (c .before .before .place-scan .ensures) (c .before .entry-scan .ensures) (c .lower .ensures)
 
 returns-3 : tie.Need-returns-3
-returns-3 c = ap (λ x. faultBy Place (scanned x)) (sym (c .enum-told3 .given .1)) ∙ rest (c .before .before)
+returns-3 c = ap (λ x. faultBy atPlace (scanned x)) (sym (c .enum-told3 .given .1)) ∙ rest (c .before .before)
 
 returns-4 : tie.Need-returns-4
-returns-4 c = ap (λ x. faultBy Place (scanned x)) (sym (c .before .p .given .1)) ∙ rest (c .before .before .before)
+returns-4 c = ap (λ x. faultBy atPlace (scanned x)) (sym (c .before .p .given .1)) ∙ rest (c .before .before .before)
 
 pub first-fault-spec : {M : Type 1} → statement M
 first-fault-spec =

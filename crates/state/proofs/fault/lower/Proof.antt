@@ -12,17 +12,17 @@ returns-2 c = rw (c .before .before .before .a .given .1, c .enum-told2 .given .
 
 returns-3 : tie.Need-returns-3
 returns-3 c =
-    let p = c .before .before .before .before .before .a .given .0 .0 in
-    let q = c .before .before .b .given .0 .0 in
+    let p = c .before .before .before .before .before .before .before .a .given .0 .0 .0 in
+    let q = c .before .before .before .before .b .given .0 .0 .0 in
     let e : p ≡ min p q = omega (arith, c .if1 .taken) in
-    rw (c .before .before .before .before .before .a .given .1, c .before .before .b .given .1, sym e)
+    rw (c .before .before .before .before .before .before .before .a .given .1, c .before .before .before .before .b .given .1, sym e)
 
 returns-4 : tie.Need-returns-4
 returns-4 c =
-    let p = c .before .before .before .before .before .a .given .0 .0 in
-    let q = c .before .before .b .given .0 .0 in
+    let p = c .before .before .before .before .before .before .before .a .given .0 .0 .0 in
+    let q = c .before .before .before .before .b .given .0 .0 .0 in
     let e : q ≡ min p q = omega (arith, c .if1 .left) in
-    rw (c .before .before .before .before .before .a .given .1, c .before .before .b .given .1, sym e)
+    rw (c .before .before .before .before .before .before .before .a .given .1, c .before .before .before .before .b .given .1, sym e)
 
 pub lower-spec : {M : Type 1} → statement M
 lower-spec =

@@ -62,9 +62,9 @@ element-copy-out-e c =
 
 returns-4 : tie.Need-returns-4 Inv-loop μ-loop
 returns-4 c =
-    let s = c .before .before .before .before .before .before .before .before .before .before .before .before .before .before .before .before .before .before .before .args .t1 in
-    let l = c .before .before .before .before .before .before .before .before .before .before .before .before .before .before .before .before .before .loop in
-    sym (places-here s (l .p) (omega arith) (decides (c .before .before .before .before .before .before .before .before .before .before .before .before .before) (held-other (s .heap) (l .p) (c .before .before .before .before .before .before .before .before .before .before .before .d .given .1) (c .before .before .before .before .before .before .before .before .if2 .left) (c .before .before .before .before .before .st .given .1) (c .if3 .taken))))
+    let s = c .before .before .before .before .before .before .before .before .before .before .before .before .before .before .before .before .before .before .before .before .args .t1 in
+    let l = c .before .before .before .before .before .before .before .before .before .before .before .before .before .before .before .before .before .before .loop in
+    sym (places-here s (l .p) (omega arith) (decides (c .before .before .before .before .before .before .before .before .before .before .before .before .before .before) (held-other (s .heap) (l .p) (c .before .before .before .before .before .before .before .before .before .before .before .before .d .given .1) (c .before .before .before .before .before .before .before .before .before .if2 .left) (c .before .before .before .before .before .before .st .given .1) (c .if3 .taken))))
     ∙ l .inv .1
 
 loop-again : tie.Need-loop-again Inv-loop μ-loop
@@ -75,7 +75,7 @@ loop-again c =
       places-go s (l .p) (omega arith)
           (decides (c .before)
           (⊎-elim
-          (λ w. held-own (s .heap) (l .p) (w .1 .given .1) (w .4 .left) (w .7 .given .1) (w .12 .left))
+          (λ w. held-own (s .heap) (l .p) (w .1 .given .1) (w .4 .left) (w .7 .given .1) (w .13 .left))
           (λ w. held-none (s .heap) (l .p) (w .1 .given .1))
           (c .match .came)))
           ∙ l .inv .1,
@@ -93,6 +93,7 @@ place-scan-spec =
     loop-holds
     (λ c. search needs)
     (λ c. search needs)
+    (λ c. search needs)
     (λ c κs. search needs)
     returns
     (λ c. search needs)
@@ -106,7 +107,6 @@ place-scan-spec =
     (λ c. search needs)
     (λ c. search needs)
     element-copy-out-e
-    (λ c. search needs)
     returns-4
     (λ c. search needs)
     (λ c. search needs)
