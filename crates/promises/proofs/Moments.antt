@@ -61,12 +61,18 @@ exact-rang : (B : Type 0) (L M : Ledger) (passes : Line → Bool) (N : ℕ) (s :
 exact-rang B L M passes N s l q k safe same rising =
     rw (k .written) (record { each-once = λ h. k .exact safe h ∙ ap bit (same h); in-order = rising; counted = omega (arith, k .counted) })
 
+-- a list as it was, but for its first n words
+abbrev Kept : ℕ → List ℕ → List ℕ → Type 0
+Kept n l m = (length m ≡ length l) × (drop n m ≡ drop n l)
+
 -- past its reports an advance leaves the list as it was
-rest-kept : (s : Set) (l : List ℕ) (r : Ring) → Rest s l r → drop (r .reported) (r .list) ≡ drop (r .reported) l
-rest-kept s l r k =
-    ext-getD 0 (drop (r .reported) (r .list)) (drop (r .reported) l)
-    (length-drop (r .reported) (r .list) ∙ ap (λ (n : ℕ). n - r .reported) (k .same-length) ∙ sym (length-drop (r .reported) l))
-    (λ i _. getD-drop (r .reported) (r .list) i 0 ∙ k .untouched (r .reported + i) (omega arith) ∙ sym (getD-drop (r .reported) l i 0))
+rest-kept : (s : Set) (l : List ℕ) (r : Ring) → Rest s l r → Kept (r .reported) l (r .list)
+rest-kept s l r k = (
+  k .same-length,
+  ext-getD 0 (drop (r .reported) (r .list)) (drop (r .reported) l)
+      (length-drop (r .reported) (r .list) ∙ ap (λ (n : ℕ). n - r .reported) (k .same-length) ∙ sym (length-drop (r .reported) l))
+      (λ i _. getD-drop (r .reported) (r .list) i 0 ∙ k .untouched (r .reported + i) (omega arith) ∙ sym (getD-drop (r .reported) l i 0)),
+)
 
 -- what is live and settled is drained, and does not leave
 live-reached : (l : Line) → settled l ≡ true → l .live ≡ true → l .drained ≡ true
@@ -122,24 +128,24 @@ module _ (B : Type 0) (r : Run ours) (g : Good B r) (low : B → Low (r .ledger)
       exact-rang B L L ready N s l (advancedOf s N l) k (λ _ _ _. b) (λ h. refl) (k .sorted (λ _ _ _. b)))
 
   -- any call leaves the lent list as it was but for its reports
-  pub list-kept : (c : Call) (l : List ℕ) → let o = step s c l in drop (reportsIn (o .answer)) (o .state .list) ≡ drop (reportsIn (o .answer)) l
+  pub list-kept : (c : Call) (l : List ℕ) → let o = step s c l in Kept (reportsIn (o .answer)) l (o .state .list)
   unfolding step
-  list-kept (C.Add d) l = refl
-  list-kept (C.Reset h d) l = refl
-  list-kept (C.Cancel h) l = refl
-  list-kept C.Drain l = refl
+  list-kept (C.Add d) l = (refl, refl)
+  list-kept (C.Reset h d) l = (refl, refl)
+  list-kept (C.Cancel h) l = (refl, refl)
+  list-kept C.Drain l = (refl, refl)
   list-kept (C.Advance N) l =
-      advance-by (λ o. drop (reportsIn (o .answer)) (o .state .list) ≡ drop (reportsIn (o .answer)) l) s l (λ n. refl) N
+      advance-by (λ o. Kept (reportsIn (o .answer)) l (o .state .list)) s l (λ n. (refl, refl)) N
       (λ a room. rest-kept s l (advancedOf s N l) (advanced-rest s N l (g .fit .sound)))
   list-kept (C.Turn N) l =
-      turn-by (λ o. drop (reportsIn (o .answer)) (o .state .list) ≡ drop (reportsIn (o .answer)) l) s l (λ n. refl) N
+      turn-by (λ o. Kept (reportsIn (o .answer)) l (o .state .list)) s l (λ n. (refl, refl)) N
       (λ a room. rest-kept (drainedOf s) l (advancedOf (drainedOf s) N l)
       (advanced-rest (drainedOf s) N l (drained-sound s (g .fit .sound) (a .still-open) (g .fit .words))))
-  list-kept C.NextWake l = refl
-  list-kept (C.Poll h) l = refl
-  list-kept C.Close l = refl
-  list-kept (C.Tick h p period N) l = refl
-  list-kept (C.Restart h period N) l = refl
+  list-kept C.NextWake l = (refl, refl)
+  list-kept (C.Poll h) l = (refl, refl)
+  list-kept C.Close l = (refl, refl)
+  list-kept (C.Tick h p period N) l = (refl, refl)
+  list-kept (C.Restart h period N) l = (refl, refl)
 
   -- where all is settled nobody waits: a live timer that waits is not drained, and a cancelled one is leaving
   idle : L .closed ≡ false → ((h : Handle) → settled (L .line h) ≡ true) → (x : ℕ) → x < cap → waiting s x ≡ false

@@ -195,4 +195,4 @@ restless-fails m = let w = m [] refl .wakes [] refl (λ h. omega arith) refl (λ
 -- a turn with a list of one word: it is refused, and the word is gone
 pub scribbling-fails : Meets scribbling every → ⊥
 unfolding from Set.step Set.guarded Set.turnOf State.waitsAt State.afterAt State.listScan State.placeOk State.entryScan State.firstPlace State.placeScan State.faultOf State.soundOf faultOf countFault positionFault orderFault chainFault countOk firstBad faultAt count
-scribbling-fails m = differ (ap length (m [] refl .lends (C.Turn 0) (7 ∷ []) refl))
+scribbling-fails m = differ (m [] refl .lends (C.Turn 0) (7 ∷ []) refl .0)

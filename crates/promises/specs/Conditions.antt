@@ -1,6 +1,7 @@
 -- The conditions of the table of refusals, RULES.md section 9, each as a test of what a call is given: those of a set first, in the
--- order in which they are asked, then those of a heap, of a clock and of a record. They are written from RULES.md and not from the
--- rules of the calls. Which call asks for which is Table.antt.
+-- order in which they are asked, then those of a heap, of a clock and of a record. They are written from RULES.md anew; only
+-- the tests of soundness, of lateness and of the fired bit, and how a place, a slot and a record's fields are read, are those of the rules.
+-- Which call asks for which is Table.antt.
 -- Assumes nothing.
 use mathlib.Core.Bool.{Bool, true, false, not, cond, _&&_, _||_}
 use mathlib.Core.List.{List, [], _∷_}

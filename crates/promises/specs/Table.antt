@@ -1,6 +1,6 @@
--- The table of refusals, RULES.md section 9, for all that refuses: what can be asked, call by call the rows that can refuse it, each
--- with its condition of Conditions.antt, and the order in which rows are asked. That everything asked is refused by it and by nothing
--- else is `table` in proofs/Table.antt.
+-- The table of refusals, RULES.md section 9, for every call that it names: what can be asked, call by call the rows that can refuse it, each
+-- with its condition of Conditions.antt, and the order in which rows are asked. That all this is refused by it and by nothing else is
+-- `table` in proofs/Table.antt.
 -- Assumes nothing.
 use mathlib.Core.Path.{_≡_}
 use mathlib.Core.Bool.{Bool, true, false, cond}
@@ -26,7 +26,7 @@ use Rattle.promises.specs.Conditions.{unsound, shut, lifeAt, dead, full,
 
 -- WHAT IS ASKED
 
--- everything that can be refused, with all that it is given: the heap's calls, a call on a set with the list that is lent, the
+-- every call that the table names, with all that it is given: the heap's calls, a call on a set with the list that is lent, the
 -- clock's calls, and a record to be decoded, by its bytes
 pub data Asked : Type 0 where
   heap-push : Heap → ℕ → ℕ → Place → Asked

@@ -229,7 +229,7 @@ module _ (E : Engine) where
   pub record Moment (asked : Call → Bool) (r : Run) (premise : Type 0) : Type 0 where
     pub answers : (c : Call) (l : List ℕ) → asked c ≡ true → Answers (must (r .ledger) c l) (E .step (r .state) c l .answer)
     pub lends : (c : Call) (l : List ℕ) → asked c ≡ true
-        → let o = E .step (r .state) c l in drop (reportsIn (o .answer)) (o .state .1) ≡ drop (reportsIn (o .answer)) l
+        → let o = E .step (r .state) c l in (length (o .state .1) ≡ length l) × (drop (reportsIn (o .answer)) (o .state .1) ≡ drop (reportsIn (o .answer)) l)
     pub turns : (N : ℕ) (l : List ℕ) → asked (C.Turn N) ≡ true → Accepted r (C.Turn N) l
         → Exact (r .ledger) owed N (seen (E .step (r .state) (C.Turn N) l))
     pub wakes : (l : List ℕ) → asked C.NextWake ≡ true → premise → r .ledger .closed ≡ false → ((h : Handle) → settled (r .ledger .line h) ≡ true)
