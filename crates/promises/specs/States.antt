@@ -1,7 +1,9 @@
--- Worked sets that hold the test of soundness to RULES.md, section 8. A row is a sound set, and beside it an unsound one that differs
--- from it only in what a clause speaks of, with the numbers of the clauses of specs/Clauses.antt that it breaks: that one alone,
--- wherever the clause can be broken alone. A row is right where the test says yes of the first set and no of the second, the first
--- breaks no clause, and the second just those. The heap of each is a heap used alone: its test says yes where no clause of it is broken.
+-- Worked sets that hold the test of soundness to RULES.md, section 8. A row is a sound set, an unsound one, and the numbers of the
+-- clauses of specs/Clauses.antt that the second breaks. The two sets differ in what those clauses speak of; in rows 2, 3, 4, 30, 31,
+-- 54, 71 and 83 something else differs too, so that no further clause is broken. The second breaks one clause alone, but in rows 1, 4,
+-- 39 and 40, where that cannot be, and in rows 58, 59 and 69, where two clauses that can each be broken alone are broken together. A row
+-- is right where the test says yes of the first set and no of the second, the first breaks no clause, and the second just those. The
+-- heap of each is a heap used alone: its test says yes where no clause of it is broken.
 -- Assumes nothing.
 use mathlib.Core.Bool.{Bool, true, false, cond, _&&_}
 use mathlib.Core.List.{List, [], _∷_, _++_}
@@ -422,5 +424,66 @@ ranges =
     (82 ∷ [])
     ∷ []
 
+-- two entries, each in the slot and of the place that have the number of its position, the second of this generation
+abbrev pub two : ℕ → Heap
+two g = heap (entry 5 0 0 ∷ record { at = 5; generation = g; place = record { 0 = 1 }; slot = record { 0 = 1 } } ∷ []) (full 0 ∷ full 1 ∷ []) 2
+
+-- where nothing is wrong at the head of the heap or of the list, or at place 0
+abbrev pub later : List Row
+later =
+    -- THE SLOT OF THE SECOND ENTRY NAMES ANOTHER POSITION
+    row 72
+    (anOpen (two 0) (live No (in-slot 0) ∷ live No (in-slot 1) ∷ []) nobody)
+    (anOpen (heap (entry 5 0 0 ∷ entry 5 1 0 ∷ []) (full 0 ∷ full 1 ∷ []) 2) (live No (in-slot 0) ∷ live No (in-slot 1) ∷ []) nobody)
+    (14 ∷ [])
+    -- A RIGHT CHILD OF A CHILD, smaller than its parent and not than the head
+    ∷ row 73 (standing (1 ∷ 5 ∷ 2 ∷ 5 ∷ 5 ∷ [])) (standing (1 ∷ 5 ∷ 2 ∷ 5 ∷ 4 ∷ [])) (15 ∷ [])
+    -- THE THIRD OF THE LIST DOES NOT WAIT
+    ∷ row 74
+    (anOpen bare (live (before 1) no-slot ∷ live (before 2) no-slot ∷ live Last no-slot ∷ []) (from 0))
+    (anOpen bare (live (before 1) no-slot ∷ live (before 2) no-slot ∷ live No no-slot ∷ []) (from 0))
+    (32 ∷ [])
+    -- AN INVALID MARK ON A CANCELLED TIMER at the last place
+    ∷ row 75
+    (atLast bare (timer (Cancelled 0) Last no-slot) (from (cap - 1)))
+    (atLast bare (timer (Cancelled 2) Last no-slot) (from (cap - 1)))
+    (42 ∷ [])
+    -- THE SECOND ENTRY IS HELD FOR A FREE PLACE, or for a retired one
+    ∷ row 76
+    (anOpen (two 0) (live No (in-slot 0) ∷ live No (in-slot 1) ∷ []) nobody)
+    (anOpen (two 0) (live No (in-slot 0) ∷ timer Free No (in-slot 1) ∷ []) nobody)
+    (51 ∷ [])
+    ∷ row 77
+    (anOpen (two 0) (live No (in-slot 0) ∷ live No (in-slot 1) ∷ []) nobody)
+    (anOpen (two 0) (live No (in-slot 0) ∷ timer Retired No (in-slot 1) ∷ []) nobody)
+    (52 ∷ [])
+    -- THE HEAD OF THE LIST IS THE LAST PLACE, which is retired
+    ∷ row 78 (atLast bare (live Last no-slot) (from (cap - 1))) (atLast bare (timer Retired Last no-slot) (from (cap - 1))) (54 ∷ [])
+    -- THE SECOND OF THE LIST IS A FREE PLACE, or a retired one
+    ∷ row 79
+    (anOpen bare (live (before 1) no-slot ∷ live Last no-slot ∷ []) (from 0))
+    (anOpen bare (live (before 1) no-slot ∷ timer Free Last no-slot ∷ []) (from 0))
+    (53 ∷ [])
+    ∷ row 80
+    (anOpen bare (live (before 1) no-slot ∷ live Last no-slot ∷ []) (from 0))
+    (anOpen bare (live (before 1) no-slot ∷ timer Retired Last no-slot ∷ []) (from 0))
+    (54 ∷ [])
+    -- THE SECOND OF THE LIST COMES AGAIN, and the first does not
+    ∷ row 81
+    (anOpen bare (live (before 1) no-slot ∷ live Last no-slot ∷ []) (from 0))
+    (anOpen bare (live (before 1) no-slot ∷ live (before 1) no-slot ∷ []) (from 0))
+    (33 ∷ [])
+    -- THE GENERATION OF THE SECOND ENTRY IS OUT OF RANGE
+    ∷ row 82
+    (anOpen (two (2 ^ 30 - 1)) (live No (in-slot 0) ∷ live No (in-slot 1) ∷ []) nobody)
+    (anOpen (two (2 ^ 30)) (live No (in-slot 0) ∷ live No (in-slot 1) ∷ []) nobody)
+    (81 ∷ [])
+    -- ITS PLACE IS
+    ∷ row 83
+    (anOpen (two 0) (live No (in-slot 0) ∷ live No (in-slot 1) ∷ []) nobody)
+    (anOpen (heap (entry 5 0 0 ∷ entry 5 cap 1 ∷ []) (full 0 ∷ full 1 ∷ []) 2) (live No (in-slot 0) ∷ live No no-slot ∷ []) nobody)
+    (82 ∷ [])
+    ∷ []
+
 abbrev pub rows : List Row
-rows = counts ++ positions ++ orders ++ chains ++ slots ++ lists ++ closings ++ unused ++ cancels ++ ranges
+rows = counts ++ positions ++ orders ++ chains ++ slots ++ lists ++ closings ++ unused ++ cancels ++ ranges ++ later

@@ -1,5 +1,5 @@
 -- What a call knows once it has asked its guard: let through, the set is sound, and open where that was asked; turned away, the
--- refusal is the rule's, whatever the call would have done.
+-- refusal is the rule's, whatever the call would have done. And what the door says once its guard has spoken.
 -- Assumes nothing.
 use mathlib.Core.Path.{_≡_, refl, sym}
 use mathlib.Core.Bool.{Bool, true, false, cond}
@@ -10,8 +10,9 @@ use Rattle.refusals.specs.declared.Refusal.the-variants.{Unsound, Closed}
 use Rattle.refusals.specs.Numbers.{numberOf}
 use Rattle.refusals.specs.Answer.{Answer, accepted, refused, refuse, Nothing, Outcome, kept}
 use Rattle.state.specs.declared.Set.{Set}
+use Rattle.state.specs.declared.Handle.{Handle}
 use Rattle.state.specs.Faults.{soundOf}
-use Rattle.timers.specs.Calls.{Value, guarded, opened, guardOf, openOf}
+use Rattle.timers.specs.Calls.{Value, Timing, guarded, opened, guardOf, openOf, liveAt, living, doorOf}
 
 -- no answer is both accepted and refused
 pub not-both : {A : Type 0} {v : A} {n : ℕ} → _≡_ {A = Answer A} (accepted v) (refused n) → ⊥
@@ -80,3 +81,29 @@ stopped-first s why e = go (soundOf s) e
         → _≡_ {A = Answer Nothing} (refused (numberOf why)) (cond b (cond (s .closed) (refuse Closed) (accepted tt)) (refuse Unsound))
     go true e = absurd (not-both (sym e))
     go false e = e
+
+-- turned away by the tests, barred or not: the door says so too
+pub door-shut : (barred : Bool) (s : Set) (h : Handle) (why : Refusal)
+    → _≡_ {A = Answer Nothing} (refused (numberOf why)) (cond (soundOf s) (cond barred (refuse Closed) (accepted tt)) (refuse Unsound))
+    → refused (numberOf why) ≡ doorOf barred s h
+unfolding doorOf
+door-shut barred s h why e = go (soundOf s) barred e
+  where
+    go : (b c : Bool) → _≡_ {A = Answer Nothing} (refused (numberOf why)) (cond b (cond c (refuse Closed) (accepted tt)) (refuse Unsound))
+        → _≡_ {A = Answer Timing} (refused (numberOf why)) (cond b (cond c (refuse Closed) (living (liveAt s h))) (refuse Unsound))
+    go true false e = absurd (not-both (sym e))
+    go true true e = let n : numberOf why ≡ numberOf Closed = cc in rw n
+    go false c e = let n : numberOf why ≡ numberOf Unsound = cc in rw n
+
+-- let through by them: the door says what the handle does
+pub door-open : (barred : Bool) (s : Set) (h : Handle)
+    → _≡_ {A = Answer Nothing} (accepted tt) (cond (soundOf s) (cond barred (refuse Closed) (accepted tt)) (refuse Unsound))
+    → doorOf barred s h ≡ living (liveAt s h)
+unfolding doorOf
+door-open barred s h e = go (soundOf s) barred e
+  where
+    go : (b c : Bool) → _≡_ {A = Answer Nothing} (accepted tt) (cond b (cond c (refuse Closed) (accepted tt)) (refuse Unsound))
+        → cond b (cond c (refuse Closed) (living (liveAt s h))) (refuse Unsound) ≡ living (liveAt s h)
+    go true false e = refl
+    go true true e = absurd (not-both e)
+    go false c e = absurd (not-both e)

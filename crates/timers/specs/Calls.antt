@@ -1,6 +1,6 @@
 -- The rules of the calls: what each makes of any set, its refusals in their order, and `step`, which is all of them.
 -- Assumes nothing.
-use mathlib.Core.Bool.{cond, _&&_}
+use mathlib.Core.Bool.{Bool, cond, _&&_}
 use mathlib.Core.Option.{Option, none, some}
 use mathlib.Core.List.{List, [], _∷_}
 use Prim.Native.Nat.{ℕ}
@@ -27,6 +27,8 @@ use Rattle.timers.specs.declared.Call.{Call}
 use Rattle.timers.specs.declared.Call.the-variants as C
 use Rattle.timers.specs.declared.Guard.{Guard}
 use Rattle.timers.specs.declared.Guard.the-variants as G
+use Rattle.timers.specs.declared.Door.{Door}
+use Rattle.timers.specs.declared.Door.the-variants as D
 use Rattle.timers.specs.declared.Reply.{Reply}
 use Rattle.timers.specs.declared.Reply.the-variants as R
 use Rattle.timers.specs.declared.After.{After}
@@ -77,6 +79,16 @@ liveAt s h = cond (ltb (h .place .0) cap && eqb (timerAt s (h .place .0) .uses) 
 abbrev pub alive : Set → Option Timing → (Timing → Outcome Set Value) → Outcome Set Value
 alive s none f = refusing s DeadHandle
 alive s (some t) f = f t
+
+-- what a handle says to a call: refused with 3 where it is dead, and else its timer
+abbrev pub living : Option Timing → Answer Timing
+living none = refuse DeadHandle
+living (some t) = accepted t
+
+-- what the door says to a call on a handle: an unsound set is refused with 1, a barred one with 2, a dead handle with 3. A set is
+-- barred where it is closed; to a call that a closed set answers too it never is
+unfoldable pub doorOf : Bool → Set → Handle → Answer Timing
+doorOf barred s h = cond (soundOf s) (cond barred (refuse Closed) (living (liveAt s h))) (refuse Unsound)
 
 -- ADD: the lowest free place, word 0, the deadline, pushed on the list; refused with 4 where no place is free
 abbrev pub addedAt : Set → ℕ → Option ℕ → Outcome Set Value
@@ -183,10 +195,14 @@ abbrev pub after : List (Call × List ℕ) → Set → Set
 after [] s = s
 after (c ∷ cs) s = after cs (step s (c .0) (c .1) .state .set)
 
--- what the code's guards and replies say
+-- what the code's guards, doors and replies say
 abbrev pub saidGuard : Guard → Answer Nothing
 saidGuard G.Open = accepted tt
 saidGuard (G.Refused r) = refused (numberOf r)
+
+abbrev pub saidDoor : Door → Answer Timing
+saidDoor (D.Refused r) = refused (numberOf r)
+saidDoor (D.Live w d) = accepted (record { word = w; due = d })
 
 abbrev pub said : Reply → Answer Value
 said (R.Added h) = accepted (handle h)

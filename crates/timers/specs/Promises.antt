@@ -1,7 +1,7 @@
 -- What each call on a set of timers promises of its answer r, and of the lent list as it is at the end.
 -- Assumes nothing.
 use mathlib.Core.Path.{_≡_}
-use mathlib.Core.Option.{Option, none, some}
+use mathlib.Core.Bool.{false}
 use mathlib.Core.List.{List}
 use Prim.Native.Nat.{ℕ}
 use Rattle.refusals.specs.declared.Refusal.{Refusal}
@@ -10,10 +10,9 @@ use Rattle.state.specs.declared.Set.{Set}
 use Rattle.state.specs.declared.Handle.{Handle}
 use Rattle.timers.specs.declared.Call.{Call}
 use Rattle.timers.specs.declared.Guard.{Guard}
+use Rattle.timers.specs.declared.Door.{Door}
 use Rattle.timers.specs.declared.After.{After}
-use Rattle.timers.specs.declared.Timing as T
-use Rattle.timers.specs.declared.Timing.the-variants as Kinds
-use Rattle.timers.specs.Calls.{Timing, saidGuard, guardOf, openOf, liveAt, resetTo, refusing, addOf, resetOf, cancelOf, drainOf, advanceOf, turnOf, nextWakeOf, pollOf, closeOf, tickAt, restartAt, step, told, toldWith}
+use Rattle.timers.specs.Calls.{saidGuard, guardOf, openOf, saidDoor, doorOf, living, liveAt, resetTo, refusing, addOf, resetOf, cancelOf, drainOf, advanceOf, turnOf, nextWakeOf, pollOf, closeOf, tickAt, restartAt, step, told, toldWith}
 
 abbrev pub Adds : Set → ℕ → After → Type 0
 Adds s d r = told r ≡ addOf s d
@@ -59,15 +58,17 @@ Guards s r = saidGuard r ≡ guardOf s
 abbrev pub Opens : Set → Guard → Type 0
 Opens s r = saidGuard r ≡ openOf s
 
+abbrev pub Enters : Set → Handle → Door → Type 0
+Enters s h r = saidDoor r ≡ doorOf (s .closed) s h
+
+abbrev pub Admits : Set → Handle → Door → Type 0
+Admits s h r = saidDoor r ≡ doorOf false s h
+
+abbrev pub Finds : Set → Handle → Door → Type 0
+Finds s h r = saidDoor r ≡ living (liveAt s h)
+
 abbrev pub Refuses : Set → Refusal → After → Type 0
 Refuses s why r = told r ≡ refusing s why
-
-abbrev pub found : T.Timing → Option Timing
-found Kinds.Dead = none
-found (Kinds.Live w d) = some (record { word = w; due = d })
-
-abbrev pub Finds : Set → Handle → T.Timing → Type 0
-Finds s h r = found r ≡ liveAt s h
 
 abbrev pub ResetsTo : Set → Handle → ℕ → ℕ → Set → Type 0
 ResetsTo s h w d r = r ≡ resetTo s h d (record { word = w; due = d })

@@ -9,7 +9,7 @@ use state::Handle;
 use state::Life;
 use state::Set;
 use word::Polled;
-ghost use Rattle.timers.specs.Promises.{Adds, Resets, Cancels, Drains, Advances, Turns, Wakes, Polls, Closes, Ticks, Restarts, Performs, Guards, Opens, Refuses, Finds, ResetsTo};
+ghost use Rattle.timers.specs.Promises.{Adds, Resets, Cancels, Drains, Advances, Turns, Wakes, Polls, Closes, Ticks, Restarts, Performs, Guards, Opens, Enters, Admits, Finds, Refuses, ResetsTo};
 ghost use Prim.Native.Nat.{_<_};
 ghost use Rattle.heap.specs.Capacity.{cap};
 
@@ -80,9 +80,9 @@ pub enum Guard {
     Refused(Refusal),
 }
 
-// What a handle names: a live timer's word and deadline, or nothing.
-pub enum Timing {
-    Dead,
+// What the door says to a call on a handle: why it is refused, or the word and the deadline of the live timer.
+pub enum Door {
+    Refused(Refusal),
     Live { word: u32, due: u64 },
 }
 
@@ -108,6 +108,26 @@ fn opened(s: Set) -> Guard
         return Guard::Refused(Refusal::Closed);
     }
     Guard::Open
+}
+
+// The one door of the calls on a handle: the set must be sound, then open, and then the handle live. It hands no set back.
+fn entered(s: Set, handle: Handle) -> Door
+    ensures { λ r. ⌜ Enters s handle r ⌝ }
+{
+    if let Guard::Refused(why) = opened(s) {
+        return Door::Refused(why);
+    }
+    named(s, handle)
+}
+
+// The same door for a call that a closed set answers too.
+fn met(s: Set, handle: Handle) -> Door
+    ensures { λ r. ⌜ Admits s handle r ⌝ }
+{
+    if let Guard::Refused(why) = guarded(s) {
+        return Door::Refused(why);
+    }
+    named(s, handle)
 }
 
 // Adds a timer at the lowest free place.
@@ -138,12 +158,9 @@ pub fn add(s: Set, due: u64) -> After
 pub fn reset(s: Set, handle: Handle, due: u64) -> After
     ensures { λ r. ⌜ Resets s handle due r ⌝ }
 {
-    if let Guard::Refused(why) = opened(s) {
-        return refused(s, why);
-    }
-    match named(s, handle) {
-        Timing::Dead => refused(s, Refusal::DeadHandle),
-        Timing::Live { word, due: _ } => After {
+    match entered(s, handle) {
+        Door::Refused(why) => return refused(s, why),
+        Door::Live { word, due: _ } => After {
             set: reset_to(s, handle, word, due),
             reply: Reply::Done,
         },
@@ -154,12 +171,9 @@ pub fn reset(s: Set, handle: Handle, due: u64) -> After
 pub fn cancel(s: Set, handle: Handle) -> After
     ensures { λ r. ⌜ Cancels s handle r ⌝ }
 {
-    if let Guard::Refused(why) = opened(s) {
-        return refused(s, why);
-    }
-    match named(s, handle) {
-        Timing::Dead => refused(s, Refusal::DeadHandle),
-        Timing::Live { word, due: _ } => {
+    match entered(s, handle) {
+        Door::Refused(why) => return refused(s, why),
+        Door::Live { word, due: _ } => {
             let g = moves::list::touched(s, handle.place, Life::Cancelled { word });
             After {
                 set: g,
@@ -252,12 +266,9 @@ pub fn next_wake(s: Set) -> After
 pub fn poll(s: Set, handle: Handle) -> After
     ensures { λ r. ⌜ Polls s handle r ⌝ }
 {
-    if let Guard::Refused(why) = guarded(s) {
-        return refused(s, why);
-    }
-    match named(s, handle) {
-        Timing::Dead => refused(s, Refusal::DeadHandle),
-        Timing::Live { word, due: _ } => After {
+    match met(s, handle) {
+        Door::Refused(why) => return refused(s, why),
+        Door::Live { word, due: _ } => After {
             set: s,
             reply: Reply::Found(word::poll(word)),
         },
@@ -281,12 +292,9 @@ pub fn close(s: Set) -> After
 pub fn tick(s: Set, handle: Handle, policy: Policy, period: u64, reading: u64) -> After
     ensures { λ r. ⌜ Ticks s handle policy period reading r ⌝ }
 {
-    if let Guard::Refused(why) = opened(s) {
-        return refused(s, why);
-    }
-    match named(s, handle) {
-        Timing::Dead => refused(s, Refusal::DeadHandle),
-        Timing::Live { word, due } => {
+    match entered(s, handle) {
+        Door::Refused(why) => return refused(s, why),
+        Door::Live { word, due } => {
             if !word::fired(word) {
                 return refused(s, Refusal::NotFired);
             }
@@ -305,12 +313,9 @@ pub fn tick(s: Set, handle: Handle, policy: Policy, period: u64, reading: u64) -
 pub fn restart(s: Set, handle: Handle, period: u64, reading: u64) -> After
     ensures { λ r. ⌜ Restarts s handle period reading r ⌝ }
 {
-    if let Guard::Refused(why) = opened(s) {
-        return refused(s, why);
-    }
-    match named(s, handle) {
-        Timing::Dead => refused(s, Refusal::DeadHandle),
-        Timing::Live { word, due: _ } => match interval::restarted(period, reading) {
+    match entered(s, handle) {
+        Door::Refused(why) => return refused(s, why),
+        Door::Live { word, due: _ } => match interval::restarted(period, reading) {
             Time::At(next) => After {
                 set: reset_to(s, handle, word, next),
                 reply: Reply::Done,
@@ -348,24 +353,24 @@ pub fn perform(s: Set, call: Call, list: &mut [u64]) -> After
     }
 }
 
-// What a handle names in a set.
-fn named(s: Set, handle: Handle) -> Timing
+// What the handle itself says, which is the second half of both doors: a dead one refuses the call.
+fn named(s: Set, handle: Handle) -> Door
     ensures { λ r. ⌜ Finds s handle r ⌝ }
 {
     let p = handle.place.0 as usize;
     if heap::CAP <= p {
-        return Timing::Dead;
+        return Door::Refused(Refusal::DeadHandle);
     }
     let t = s.timers[p];
     if t.uses != handle.uses {
-        return Timing::Dead;
+        return Door::Refused(Refusal::DeadHandle);
     }
     let l = t.life;
     match l {
-        Life::Free => Timing::Dead,
-        Life::Live { word, due } => Timing::Live { word, due },
-        Life::Cancelled { word: _ } => Timing::Dead,
-        Life::Retired => Timing::Dead,
+        Life::Free => Door::Refused(Refusal::DeadHandle),
+        Life::Live { word, due } => Door::Live { word, due },
+        Life::Cancelled { word: _ } => Door::Refused(Refusal::DeadHandle),
+        Life::Retired => Door::Refused(Refusal::DeadHandle),
     }
 }
 

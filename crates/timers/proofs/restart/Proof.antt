@@ -4,51 +4,37 @@ use mathlib.Core.Path.{sym, ap, _∙_}
 use borrow.Author.Needs.{needs}
 use Rattle.state.specs.declared.Set.{Set}
 use Rattle.timers.specs.Calls.{restartAt, gives, nothing}
-use Rattle.timers.proofs.Alive.{turned-away, let-through, as-found, as-restarted, live-place}
+use Rattle.timers.proofs.Alive.{at-door, as-restarted, live-place}
 use Rattle.timers.proofs.restart.Statement.{statement}
 use Rattle.timers.proofs.restart.Tie as tie
 
 returns : tie.Need-returns
 unfolding restartAt
-returns c = c .refused .ensures ∙ sym (turned-away _ _ (c .before .before .why .given .1) (c .before .before .before .before .opened .ensures))
+returns c = c .refused .ensures ∙ sym (at-door _ _ _ _ (c .before .before .why .given .1) (c .before .before .before .before .entered .ensures))
 
 reset-to-requires : tie.Need-reset-to-requires
 reset-to-requires c κs =
     let w = c .before .before .before .before .before in
-    let n = w .before .before in
-    live-place _ _ (w .word .given .1) (n .named .ensures)
+    live-place _ _ _ (w .word .given .1) (w .before .before .entered .ensures)
 
 returns-2 : tie.Need-returns-2
 unfolding restartAt
 returns-2 c =
-    let n = c .before .before .before in
-    c .refused2 .ensures
+    let w = c .before .before .before .before .before .before in
+    let a = w .before .before .before .args in
+    ap (λ (g : Set). gives g nothing) (c .reset-to .ensures)
     ∙ sym
-    (let-through _ _ (n .before .enum-told .given .1) (n .before .before .before .opened .ensures)
-    ∙ as-found _ _ _ (c .before .enum-told2 .given .1) (n .named .ensures))
+    (at-door _ _ _ _ (w .word .given .1) (w .before .before .entered .ensures)
+    ∙ as-restarted (a .s) (a .handle) (a .period) (a .reading) _ (c .before .before .next .given .1) (c .before .before .before .before .restarted .ensures))
 
 returns-3 : tie.Need-returns-3
 unfolding restartAt
 returns-3 c =
     let w = c .before .before .before .before .before .before in
-    let n = w .before .before in
-    let a = n .before .before .before .before .args in
-    ap (λ (g : Set). gives g nothing) (c .reset-to .ensures)
+    let a = w .before .before .before .args in
+    c .refused2 .ensures
     ∙ sym
-    (let-through _ _ (n .before .enum-told .given .1) (n .before .before .before .opened .ensures)
-    ∙ as-found _ _ _ (w .word .given .1) (n .named .ensures)
-    ∙ as-restarted (a .s) (a .handle) (a .period) (a .reading) _ (c .before .before .next .given .1) (c .before .before .before .before .restarted .ensures))
-
-returns-4 : tie.Need-returns-4
-unfolding restartAt
-returns-4 c =
-    let w = c .before .before .before .before .before .before in
-    let n = w .before .before in
-    let a = n .before .before .before .before .args in
-    c .refused3 .ensures
-    ∙ sym
-    (let-through _ _ (n .before .enum-told .given .1) (n .before .before .before .opened .ensures)
-    ∙ as-found _ _ _ (w .word .given .1) (n .named .ensures)
+    (at-door _ _ _ _ (w .word .given .1) (w .before .before .entered .ensures)
     ∙ as-restarted (a .s) (a .handle) (a .period) (a .reading) _ (c .before .before .why2 .given .1) (c .before .before .before .before .restarted .ensures))
 
 pub restart-spec : {M : Type 1} → statement M
@@ -62,13 +48,8 @@ restart-spec =
     (λ c. search needs)
     (λ c κs. search needs)
     (λ c. search needs)
-    (λ c κs. search needs)
-    (λ c. search needs)
-    (λ c κs. search needs)
-    (λ c. search needs)
     reset-to-requires
     (λ c. search needs)
     (λ c κs. search needs)
     returns-2
-    returns-3
-    returns-4)
+    returns-3)
