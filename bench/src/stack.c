@@ -22,7 +22,7 @@ typedef uint64_t exported(uint64_t, uint64_t, uint64_t, uint64_t, uint64_t, uint
 exported depth_fresh, depth_add, depth_reset, depth_cancel, depth_drain, depth_advance, depth_turn, depth_next_wake, depth_poll,
     depth_close, depth_tick, depth_restart, depth_perform;
 
-enum { STACK = 1 << 18, PAGE = 4096, PAINT = 0xa5, RED_ZONE = 128, UNSOUND = 100 };
+enum { STACK = 1 << 18, PAGE = 4096, WORD = 8, PAINT = 0xa5, RED_ZONE = 128, UNSOUND = 100 };
 
 static uint8_t *stack;
 static uint64_t *before, *after;
@@ -55,9 +55,9 @@ static void written(int number, siginfo_t *told, void *context)
     } else if (told->si_addr == after && pointer == made_at) {
         for (deepest = stack; deepest < pointer - RED_ZONE && *deepest == PAINT; deepest++)
             ;
-        /* what lies above is no paint, so that less than that counts as nothing */
-        if (deepest == pointer - RED_ZONE)
-            deepest = pointer;
+        /* A byte that was written may look like paint, so a word counts whole. What lies above is not painted, so that less than that
+         * counts as nothing. */
+        deepest = deepest < pointer - RED_ZONE ? stack + (deepest - stack) / WORD * WORD : pointer;
     } else {
         signal(number, SIG_DFL);
         return;
@@ -163,7 +163,7 @@ static void everywhere(const struct call *call, struct seen *seen)
         /* the first time may be unlike the others: the loader may have to look up memcpy then */
         measure(&run);
         measure(&run);
-        bytes = called_at + sizeof called_at - deepest;
+        bytes = called_at + WORD - deepest;
         if (bytes > seen->most) {
             seen->most = bytes;
             seen->below = made_at - deepest;

@@ -1,5 +1,6 @@
 // Timers and sets built by hand. They have the names that they have in specs/States.antt of the crate `promises`.
 use heap::Heap;
+use heap::Place;
 use heap::Slot;
 use state::First;
 use state::Held;
@@ -23,11 +24,6 @@ pub fn live(waiting: Waiting, held: Held) -> Timer {
     timer(Life::Live { word: 0, due: 5 }, waiting, held)
 }
 
-// A cancelled timer.
-pub fn cancelled(waiting: Waiting, held: Held) -> Timer {
-    timer(Life::Cancelled { word: 0 }, waiting, held)
-}
-
 // A live timer that does not wait and names this slot.
 pub fn in_slot(q: u16) -> Timer {
     live(Waiting::No, Held::At(Slot(q)))
@@ -38,27 +34,53 @@ pub fn apart() -> Timer {
     live(Waiting::No, Held::Nothing)
 }
 
+// A live timer that waits, the last of the list, and names no slot.
+pub fn waits() -> Timer {
+    live(Waiting::Last, Held::Nothing)
+}
+
 // A free place.
 pub fn free() -> Timer {
     timer(Life::Free, Waiting::No, Held::Nothing)
 }
 
-// An open set with these timers at the places 0 and 1, and the rest of the places free.
-pub fn open_two(h: Heap, t: Timer, u: Timer, first: First) -> Set {
-    let mut ts = [free(); heap::CAP];
-    ts[0] = t;
-    ts[1] = u;
-    Set {
-        heap: h,
-        timers: ts,
-        first,
-        closed: false,
-    }
+// An open set with this heap: every place is free, and nobody is in the list.
+pub fn bare(h: Heap) -> Set {
+    let mut s = state::fresh();
+    s.heap = h;
+    s
 }
 
-// An open set with this timer at place 0, and the rest of the places free.
-pub fn open(h: Heap, t: Timer, first: First) -> Set {
-    open_two(h, t, free(), first)
+// An open set with this heap and this timer at place 0. Nobody is in the list.
+pub fn open(h: Heap, t: Timer) -> Set {
+    let mut s = bare(h);
+    s.timers[0] = t;
+    s
+}
+
+// The same, with another timer at place 1.
+pub fn open_two(h: Heap, t: Timer, u: Timer) -> Set {
+    let mut s = open(h, t);
+    s.timers[1] = u;
+    s
+}
+
+// The same with no entry and no slot.
+pub fn two(t: Timer, u: Timer) -> Set {
+    open_two(heap::fresh(), t, u)
+}
+
+// An open set with this timer at place 0, and no entry and no slot.
+pub fn one(t: Timer) -> Set {
+    open(heap::fresh(), t)
+}
+
+// The set with this place at the head of the list.
+pub fn from(s: Set, p: u16) -> Set {
+    let f = First::At(Place(p));
+    let mut g = s;
+    g.first = f;
+    g
 }
 
 // The set closed.
@@ -68,22 +90,20 @@ pub fn closed(s: Set) -> Set {
     g
 }
 
-// A set whose every place has a live timer, in the slot that has the number of its place.
+// An open set whose every place has a live timer, in the slot that has the number of its place.
 pub fn all_in_slots(h: Heap) -> Set {
-    let mut s = state::fresh();
+    let mut s = bare(h);
     let mut p: usize = 0;
     while p < heap::CAP {
         s.timers[p] = in_slot(p as u16);
         p += 1;
     }
-    s.heap = h;
     s
 }
 
-// An open set with this timer at the last place, and the rest of the places free.
+// An open set with this timer at the last place.
 pub fn at_last(h: Heap, t: Timer) -> Set {
-    let mut s = state::fresh();
+    let mut s = bare(h);
     s.timers[heap::CAP - 1] = t;
-    s.heap = h;
     s
 }

@@ -1,6 +1,7 @@
 // Sound sets to which no call leads, or none in a lifetime, and what the calls answer.
 use crate::heaps::entry;
 use crate::heaps::one;
+use crate::sets;
 use crate::sets::apart;
 use crate::sets::free;
 use crate::sets::open;
@@ -38,18 +39,13 @@ fn with_entry(word: u32, due: u64) -> Set {
     open(
         one(entry(5, 0, 0)),
         timer(Life::Live { word, due }, Waiting::No, Held::At(Slot(0))),
-        First::Nothing,
     )
 }
 
 // A place that is retired with use numbers left, and entries that no drain made.
 fn odd_ones() {
     tell::text(b"place 0 retired: add ");
-    add(open(
-        heap::fresh(),
-        timer(Life::Retired, Waiting::No, Held::Nothing),
-        First::Nothing,
-    ));
+    add(sets::one(timer(Life::Retired, Waiting::No, Held::Nothing)));
     tell::text(b"fired, with an entry of its own generation: advance ");
     advance(with_entry(1, 5));
     tell::text(b"an entry earlier than its timer's deadline: advance ");
@@ -59,7 +55,7 @@ fn odd_ones() {
 // A live timer that a close does not meet.
 fn unmet() {
     tell::text(b"live, neither waiting nor in the heap: close ");
-    let c = timers::close(open(heap::fresh(), apart(), First::Nothing));
+    let c = timers::close(sets::one(apart()));
     let q = c.reply;
     tell::reply(q);
     tell::text(b"and a poll of it then ");

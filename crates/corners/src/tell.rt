@@ -1,15 +1,6 @@
-// What is written: plain text, and the answers of the calls. Each answer ends its line.
-use clock::Change;
-use clock::Changed;
-use heap::AfterPush;
-use heap::AfterRemove;
-use heap::Entry;
+// What is written: plain text, what a call on a set answered, and what a peek of a heap did.
 use heap::Peeked;
-use heap::Pushed;
-use heap::Removed;
 use libc::STDOUT_FILENO;
-use refusals::Refusal;
-use refusals::time::Time;
 use timers::Reply;
 use word::Polled;
 
@@ -18,15 +9,10 @@ pub fn text(s: &[u8]) {
     io::write_all(STDOUT_FILENO, s);
 }
 
-// Writes a number.
-fn number(n: u64) {
+// Writes a text and a number.
+fn number(before: &[u8], n: u64) {
+    io::write_all(STDOUT_FILENO, before);
     io::print_decimal(STDOUT_FILENO, n);
-}
-
-// Writes a refusal by its number.
-fn refused(why: Refusal) {
-    text(b"refused ");
-    number(refusals::number(why) as u64);
 }
 
 // Writes what a poll found.
@@ -42,65 +28,19 @@ fn polled(found: Polled) {
 pub fn reply(r: Reply) {
     match r {
         Reply::Added(handle) => {
-            number(handle.place.0 as u64);
-            text(b":");
-            number(handle.uses as u64);
+            number(b"", handle.place.0 as u64);
+            number(b":", handle.uses as u64);
         }
         Reply::Done => text(b"done"),
         Reply::Ran { reported, popped } => {
-            text(b"reported ");
-            number(reported as u64);
-            text(b" popped ");
-            number(popped as u64);
+            number(b"reported ", reported as u64);
+            number(b" popped ", popped as u64);
         }
-        Reply::WakeAt(at) => {
-            text(b"wake ");
-            number(at);
-        }
+        Reply::WakeAt(at) => number(b"wake ", at),
         Reply::NoWake => text(b"no wake"),
         Reply::Found(found) => polled(found),
-        Reply::Ticked(at) => {
-            text(b"ticked ");
-            number(at);
-        }
-        Reply::Refused(why) => refused(why),
-    }
-    text(b"\n");
-}
-
-// Writes an entry: its deadline and its slot.
-fn entry(e: Entry) {
-    number(e.at);
-    text(b" in slot ");
-    number(e.slot.0 as u64);
-}
-
-// Writes what a push answered, and ends the line.
-pub fn pushed(a: AfterPush) {
-    let answer = a.answer;
-    match answer {
-        Pushed::Done { slot, swaps } => {
-            text(b"slot ");
-            number(slot.0 as u64);
-            text(b" swaps ");
-            number(swaps as u64);
-        }
-        Pushed::Refused(why) => refused(why),
-    }
-    text(b"\n");
-}
-
-// Writes what a removal or a pop answered, and ends the line.
-pub fn removed(a: AfterRemove) {
-    let answer = a.answer;
-    match answer {
-        Removed::Done { entry: e, swaps } => {
-            entry(e);
-            text(b" swaps ");
-            number(swaps as u64);
-        }
-        Removed::Nothing => text(b"nothing"),
-        Removed::Refused(why) => refused(why),
+        Reply::Ticked(at) => number(b"ticked ", at),
+        Reply::Refused(why) => number(b"refused ", refusals::number(why) as u64),
     }
     text(b"\n");
 }
@@ -108,39 +48,9 @@ pub fn removed(a: AfterRemove) {
 // Writes what a peek answered, and ends the line.
 pub fn peeked(p: Peeked) {
     match p {
-        Peeked::Head(e) => entry(e),
+        Peeked::Head(e) => number(b"head ", e.at),
         Peeked::Nothing => text(b"nothing"),
-        Peeked::Refused(why) => refused(why),
-    }
-    text(b"\n");
-}
-
-// Writes what a clock's reading answered, and ends the line.
-pub fn time(t: Time) {
-    match t {
-        Time::At(at) => number(at),
-        Time::Refused(why) => refused(why),
-    }
-    text(b"\n");
-}
-
-// Writes what a change of a clock answered, and ends the line.
-pub fn changed(c: Changed) {
-    let answer = c.answer;
-    match answer {
-        Change::Done => text(b"done"),
-        Change::Refused(why) => refused(why),
-    }
-    text(b"\n");
-}
-
-// Writes the words of a list, and ends the line.
-pub fn words(list: &[u64]) {
-    let mut i: usize = 0;
-    while i < list.len() {
-        text(b" ");
-        number(list[i]);
-        i += 1;
+        Peeked::Refused(why) => number(b"refused ", refusals::number(why) as u64),
     }
     text(b"\n");
 }

@@ -1,30 +1,28 @@
 // Unsound sets, and a next wake of each, which is refused with 1. A row is that of specs/States.antt in the crate `promises`, of whose
 // two sets it is the second, and a clause that of specs/Clauses.antt there: the set breaks the clauses that are named, and no other.
-// Three sets have no row there: each goes wrong at a step of the test that no row comes to.
+// Three sets have no row there: each goes wrong at a step of the test that no row comes to. Where the heap is at fault, a peek of it is
+// made too.
+use crate::heaps;
 use crate::heaps::empty;
 use crate::heaps::entry;
 use crate::heaps::freed;
 use crate::heaps::full;
 use crate::heaps::holding;
-use crate::heaps::holding_two;
-use crate::heaps::one;
 use crate::heaps::slab;
-use crate::heaps::two;
 use crate::heaps::vacated;
+use crate::sets;
 use crate::sets::apart;
-use crate::sets::cancelled;
 use crate::sets::closed;
-use crate::sets::free;
+use crate::sets::from;
 use crate::sets::in_slot;
-use crate::sets::live;
 use crate::sets::open;
 use crate::sets::open_two;
 use crate::sets::timer;
+use crate::sets::waits;
 use crate::tell;
 use heap::Heap;
 use heap::Place;
 use heap::Slot;
-use state::First;
 use state::Held;
 use state::Life;
 use state::Set;
@@ -38,102 +36,105 @@ fn wake(what: &[u8], s: Set) {
     tell::reply(r);
 }
 
-// One entry, of place 0 in slot 0.
-fn own() -> Heap {
-    one(entry(5, 0, 0))
+// The same of a set whose heap is at fault, and what a peek of that heap, used alone, answers.
+fn peek(what: &[u8], s: Set) {
+    wake(what, s);
+    tell::text(b"its heap alone: ");
+    let h = s.heap;
+    tell::peeked(heap::peek(h));
 }
 
-// One entry, of place 1 in slot 0.
-fn another() -> Heap {
-    one(entry(5, 1, 0))
+// One entry, of place 0 in slot 0.
+fn own() -> Heap {
+    heaps::one(entry(5, 0, 0))
+}
+
+// The first place that there is not.
+fn past() -> u16 {
+    heap::CAP as u16
 }
 
 // Count.
 fn counts() {
-    wake(
+    peek(
         b"row 1, clauses 11 and 13, an entry too many: ",
-        crate::sets::all_in_slots(crate::heaps::with_one_more_entry(crate::heaps::full_heap())),
+        sets::all_in_slots(heaps::with_one_more_entry(heaps::full_heap())),
     );
-    wake(
+    peek(
         b"row 2, clause 12, a slot too many: ",
-        open(crate::heaps::one_slot_more(), free(), First::Nothing),
+        sets::bare(heaps::one_slot_more()),
     );
-    wake(
+    peek(
         b"row 3, clause 13, a full slot without an entry: ",
-        open(slab(full(0), empty(0), 1, 1), free(), First::Nothing),
+        sets::bare(slab(full(0), empty(0), 1, 1)),
     );
-    wake(
+    peek(
         b"row 4, clauses 13 and 14, an entry without a full slot: ",
-        open(holding(vacated(), entry(5, 0, 0)), apart(), First::Nothing),
+        open(holding(vacated(), entry(5, 0, 0)), apart()),
     );
 }
 
 // Position.
 fn positions() {
-    wake(
+    peek(
         b"row 5, clause 14, an entry whose slot was never made: ",
         open(
             holding(slab(full(0), full(0), 1, 1), entry(5, 0, 1)),
             in_slot(0),
-            First::Nothing,
         ),
     );
-    wake(
+    peek(
         b"row 6, clause 14, an entry whose slot is empty: ",
         open(
             holding(slab(full(0), empty(2), 2, 1), entry(5, 0, 1)),
             in_slot(0),
-            First::Nothing,
         ),
     );
-    wake(
+    peek(
         b"row 7, clause 14, entries whose slots name each other's position: ",
         open_two(
-            holding_two(slab(full(1), full(0), 2, 2), entry(5, 0, 0), entry(5, 1, 1)),
+            heaps::holding_two(slab(full(1), full(0), 2, 2), entry(5, 0, 0), entry(5, 1, 1)),
             in_slot(1),
             in_slot(0),
-            First::Nothing,
         ),
     );
 }
 
 // Order.
 fn orders() {
-    wake(
+    peek(
         b"row 8, clause 15, a child before its parent: ",
         open_two(
-            two(entry(5, 0, 0), entry(4, 1, 1)),
+            heaps::two(entry(5, 0, 0), entry(4, 1, 1)),
             in_slot(0),
             in_slot(1),
-            First::Nothing,
         ),
     );
 }
 
-// Free chain.
+// Free chain. Past the slots of row 12 one stands that would do.
 fn chains() {
-    wake(
+    peek(
         b"row 11, clause 16, a free head past the slots: ",
-        open(freed(heap::fresh(), 1), free(), First::Nothing),
+        sets::bare(freed(heap::fresh(), 1)),
     );
-    wake(
+    peek(
         b"row 12, clause 16, an empty slot not met: ",
-        open(freed(vacated(), 1), free(), First::Nothing),
+        sets::bare(slab(empty(1), empty(1), 1, 1)),
     );
-    wake(
+    peek(
         b"row 14, clause 16, a chain that loops: ",
-        open(slab(empty(0), empty(0), 1, 0), free(), First::Nothing),
+        sets::bare(slab(empty(0), empty(0), 1, 0)),
     );
-    wake(
+    peek(
         b"row 16, clause 16, a free head that is a full slot: ",
-        open(freed(own(), 0), in_slot(0), First::Nothing),
+        open(freed(own(), 0), in_slot(0)),
     );
-    wake(
+    peek(
         b"no row, clause 16, the same, and an empty slot not met: ",
         open(
             holding(slab(full(0), empty(2), 2, 0), entry(5, 0, 0)),
             in_slot(0),
-            First::Nothing,
         ),
     );
 }
@@ -142,27 +143,23 @@ fn chains() {
 fn slots() {
     wake(
         b"row 18, clause 21, a timer that names a slot never made: ",
-        open(crate::heaps::left_over(), in_slot(0), First::Nothing),
+        open(heaps::left_over(), in_slot(0)),
     );
     wake(
         b"row 19, clause 21, a timer that names an empty slot: ",
-        open(vacated(), in_slot(0), First::Nothing),
+        open(vacated(), in_slot(0)),
     );
     wake(
         b"row 20, clause 21, a timer that names the slot of another's entry: ",
-        open_two(another(), in_slot(0), in_slot(0), First::Nothing),
+        open_two(heaps::one(entry(5, 1, 0)), in_slot(0), in_slot(0)),
     );
     wake(
         b"row 22, clause 21, a free place that names a slot: ",
-        open(
-            vacated(),
-            timer(Life::Free, Waiting::No, Held::At(Slot(0))),
-            First::Nothing,
-        ),
+        open(vacated(), timer(Life::Free, Waiting::No, Held::At(Slot(0)))),
     );
     wake(
         b"row 26, clause 21, a closed set that names a slot: ",
-        closed(open(vacated(), in_slot(0), First::Nothing)),
+        closed(open(vacated(), in_slot(0))),
     );
 }
 
@@ -170,15 +167,14 @@ fn slots() {
 fn entries() {
     wake(
         b"row 28, clause 22, an entry whose timer names no slot: ",
-        open(own(), apart(), First::Nothing),
+        open(own(), apart()),
     );
     wake(
         b"row 30, clause 22, two entries of one timer: ",
         open_two(
-            two(entry(5, 0, 0), entry(5, 0, 1)),
+            heaps::two(entry(5, 0, 0), entry(5, 0, 1)),
             in_slot(0),
             apart(),
-            First::Nothing,
         ),
     );
 }
@@ -187,37 +183,19 @@ fn entries() {
 fn unlisted() {
     wake(
         b"row 32, clause 31, a timer that waits, and no list: ",
-        open(
-            heap::fresh(),
-            live(Waiting::Last, Held::Nothing),
-            First::Nothing,
-        ),
+        sets::one(waits()),
     );
     wake(
         b"row 34, clause 31, a list that ends before a timer that waits: ",
-        open_two(
-            heap::fresh(),
-            live(Waiting::Last, Held::Nothing),
-            live(Waiting::Last, Held::Nothing),
-            First::At(Place(0)),
-        ),
+        from(sets::two(waits(), waits()), 0),
     );
     wake(
         b"no row, clauses 31 and 32, a list of one that does not wait, and another that does: ",
-        open_two(
-            heap::fresh(),
-            apart(),
-            live(Waiting::Last, Held::Nothing),
-            First::At(Place(0)),
-        ),
+        from(sets::two(apart(), waits()), 0),
     );
     wake(
         b"no row, clauses 31, 32 and 82, a list of a place out of range, and a timer that waits: ",
-        open(
-            heap::fresh(),
-            live(Waiting::Last, Held::Nothing),
-            First::At(Place(heap::CAP as u16)),
-        ),
+        from(sets::one(waits()), past()),
     );
 }
 
@@ -225,18 +203,17 @@ fn unlisted() {
 fn listed() {
     wake(
         b"row 37, clause 32, a list of one that does not wait: ",
-        open(heap::fresh(), apart(), First::At(Place(0))),
+        from(sets::one(apart()), 0),
     );
     wake(
         b"row 39, clauses 32 and 82, a list of a place out of range: ",
-        open(heap::fresh(), free(), First::At(Place(heap::CAP as u16))),
+        from(state::fresh(), past()),
     );
     wake(
         b"row 41, clause 33, a list that loops: ",
-        open(
-            heap::fresh(),
-            live(Waiting::Before(Place(0)), Held::Nothing),
-            First::At(Place(0)),
+        from(
+            sets::one(sets::live(Waiting::Before(Place(0)), Held::Nothing)),
+            0,
         ),
     );
 }
@@ -245,31 +222,22 @@ fn listed() {
 fn closings() {
     wake(
         b"row 43, clause 41, an invalid mark on a live timer of an open set: ",
-        open(
-            heap::fresh(),
-            timer(Life::Live { word: 2, due: 5 }, Waiting::No, Held::Nothing),
-            First::Nothing,
-        ),
+        sets::one(timer(Life::Live { word: 2, due: 5 }, Waiting::No, Held::Nothing)),
     );
     wake(
         b"row 49, clause 42, an invalid mark on a cancelled one: ",
-        open(
-            heap::fresh(),
-            timer(Life::Cancelled { word: 2 }, Waiting::Last, Held::Nothing),
-            First::At(Place(0)),
+        from(
+            sets::one(timer(Life::Cancelled { word: 2 }, Waiting::Last, Held::Nothing)),
+            0,
         ),
     );
     wake(
         b"row 51, clause 43, a closed set with a timer in its list: ",
-        closed(open(
-            heap::fresh(),
-            live(Waiting::Last, Held::Nothing),
-            First::At(Place(0)),
-        )),
+        closed(from(sets::one(waits()), 0)),
     );
     wake(
         b"row 53, clause 44, a closed set with an entry: ",
-        closed(open(own(), in_slot(0), First::Nothing)),
+        closed(open(own(), in_slot(0))),
     );
 }
 
@@ -277,34 +245,24 @@ fn closings() {
 fn unused() {
     wake(
         b"row 55, clause 51, an entry of a free place: ",
-        open(
-            own(),
-            timer(Life::Free, Waiting::No, Held::At(Slot(0))),
-            First::Nothing,
-        ),
+        open(own(), timer(Life::Free, Waiting::No, Held::At(Slot(0)))),
     );
     wake(
         b"row 56, clause 52, an entry of a retired place: ",
-        open(
-            own(),
-            timer(Life::Retired, Waiting::No, Held::At(Slot(0))),
-            First::Nothing,
-        ),
+        open(own(), timer(Life::Retired, Waiting::No, Held::At(Slot(0)))),
     );
     wake(
         b"row 60, clause 53, a free place in the list: ",
-        open(
-            heap::fresh(),
-            timer(Life::Free, Waiting::Last, Held::Nothing),
-            First::At(Place(0)),
+        from(
+            sets::one(timer(Life::Free, Waiting::Last, Held::Nothing)),
+            0,
         ),
     );
     wake(
         b"row 61, clause 54, a retired place in the list: ",
-        open(
-            heap::fresh(),
-            timer(Life::Retired, Waiting::Last, Held::Nothing),
-            First::At(Place(0)),
+        from(
+            sets::one(timer(Life::Retired, Waiting::Last, Held::Nothing)),
+            0,
         ),
     );
 }
@@ -313,11 +271,7 @@ fn unused() {
 fn cancels() {
     wake(
         b"row 65, clause 61, a cancelled timer that does not wait: ",
-        open(
-            heap::fresh(),
-            cancelled(Waiting::No, Held::Nothing),
-            First::Nothing,
-        ),
+        sets::one(timer(Life::Cancelled { word: 0 }, Waiting::No, Held::Nothing)),
     );
 }
 
@@ -327,11 +281,11 @@ fn ranges() {
     e.generation = 1_073_741_824;
     wake(
         b"row 70, clause 81, an entry of generation 2^30: ",
-        open(one(e), in_slot(0), First::Nothing),
+        open(heaps::one(e), in_slot(0)),
     );
     wake(
         b"row 71, clause 82, an entry of a place out of range: ",
-        crate::sets::at_last(one(entry(5, heap::CAP as u16, 0)), apart()),
+        sets::at_last(heaps::one(entry(5, past(), 0)), apart()),
     );
 }
 

@@ -1,18 +1,17 @@
 -- What one pop of an advance writes to the list that is lent: the word of the head's handle after the words written before, where its
--- timer is reported, and nothing where it is not. And a word of the list names the handle that it was made of.
+-- timer is reported, and nothing where it is not.
 -- Assumes nothing.
 use mathlib.Core.Path.{_≡_, refl, sym}
 use mathlib.Core.Bool.{Bool, true, false, cond}
 use mathlib.Core.List.{List, [], _∷_, _++_, append-nil}
-use Prim.Native.Nat.{ℕ, suc, _+_, _*_, _/_, _%_, _<_, _^_}
+use Prim.Native.Nat.{ℕ, suc, _+_, _<_}
 use native.Mathlib.Omega.{arith}
 use lib.ListN.{length, set, take, length-set}
 use lib.Seq.{take-suc-set}
 use Rattle.theory.specs.Tests.{bit}
 use Rattle.heap.specs.Rules.{entryAt}
-use Rattle.state.specs.declared.Handle.{Handle}
 use Rattle.state.specs.State.{timerAt}
-use Rattle.state.specs.Handles.{handleWord, handleOf}
+use Rattle.state.specs.Handles.{handleWord}
 use Rattle.state.specs.Sound.{Sound}
 use Rattle.moves.specs.Rules.{Ring, reports, rungOf}
 use Rattle.laws.proofs.AdvancedSound.{rung-len}
@@ -62,18 +61,3 @@ rung-reported r = go (headReports r)
 -- a pop leaves one entry less
 pub rung-left : (r : Ring) → Sound (r .set) → 0 < r .set .heap .len → rungOf r .set .heap .len + 1 ≡ r .set .heap .len
 rung-left r ok b = omega (arith, rung-len r ok b)
-
--- the upper and the lower half of a word
-upper : (u p : ℕ) → p < 2 ^ 32 → (u * 2 ^ 32 + p) / 2 ^ 32 ≡ u
-upper u p b = omega arith
-
-lower : (u p : ℕ) → p < 2 ^ 32 → (u * 2 ^ 32 + p) % 2 ^ 32 ≡ p
-lower u p b = omega arith
-
--- the word of a handle names that handle
-pub handle-of-word : (h : Handle) → h .place .0 < 2 ^ 32 → handleOf (handleWord h) ≡ h
-handle-of-word h b = λ i. record { place = record { 0 = lower (h .uses) (h .place .0) b i }; uses = upper (h .uses) (h .place .0) b i }
-
--- every word is that of the handle that it names
-pub word-of-handle : (w : ℕ) → handleWord (handleOf w) ≡ w
-word-of-handle w = omega arith

@@ -11,6 +11,7 @@ use state::First;
 use state::Handle;
 use state::Held;
 use state::Life;
+use state::Named;
 use state::Set;
 use state::Timer;
 use state::Waiting;
@@ -21,7 +22,7 @@ use word::Polled;
 
 // Every bit of a state word but the invalid mark.
 const VALID: u32 = 0xffff_fffd;
-// 2^32: the upper half of a word of 64 bits counts in it.
+// 2^32: a number of 64 bits has its lower half below it.
 const HIGH: u64 = 4_294_967_296;
 
 // What a record asks of a set.
@@ -218,12 +219,21 @@ fn reports(list: &[u64; heap::CAP], reported: usize, at: usize, out: &mut [u8; R
         if reported <= i {
             break;
         }
-        let handle = list[i];
-        n = text::field(n, handle % HIGH, out);
-        n = text::part(n, handle / HIGH, out);
+        n = name(list[i], n, out);
         i += 1;
     }
     n
+}
+
+// Whom a word names, as place and use number; a question mark for nobody.
+fn name(word: u64, at: usize, out: &mut [u8; ROOM]) -> usize {
+    match state::handle_of(word) {
+        Named::Nobody => text::mark(at, b'?', out),
+        Named::Handle(handle) => {
+            let n = text::field(at, handle.place.0 as u64, out);
+            text::part(n, handle.uses as u64, out)
+        }
+    }
 }
 
 // Shows a set, and ends the line.

@@ -3,7 +3,7 @@
 -- Assumes nothing.
 use mathlib.Core.Path.{_≡_, refl, sym, ap, subst, _∙_}
 use mathlib.Core.Bool.{Bool, true, false, _&&_}
-use mathlib.Core.List.{[], _∷_}
+use mathlib.Core.List.{[], _∷_, filterMap}
 use Prim.Native.Nat.{ℕ, zero, suc, _+_, _*_, _%_, _≤_, _<_, _^_}
 use native.Mathlib.Omega.{arith}
 use lib.Dec.{leb}
@@ -88,7 +88,7 @@ resets (suc n) o = rw o (ap (λ w. with-list words (gives (awaiting w) nothing))
 
 -- an advance to 10 where the word has come back to 0
 rings : soundOf (awaiting 0) ≡ true → seen (handed (step (awaiting 0) (C.Advance 10) words)) .reports ≡ its ∷ []
-unfolding step advanceOf guarded advancedOf ringFrom dueBy rungOf pushSound pushedOf takenOf addedOf putAt upFrom
+unfolding filterMap step advanceOf guarded advancedOf ringFrom dueBy rungOf pushSound pushedOf takenOf addedOf putAt upFrom
 rings o = rw o refl
 
 -- THE RUNS

@@ -30,4 +30,13 @@ pub mod Owing
 pub mod Timeouts
 pub mod Bound
 pub mod States
+pub mod ClauseLists
+pub mod ClauseHeap
+pub mod ClauseChain
+pub mod ClauseTimers
+pub mod ClauseOwners
+pub mod ClauseKept
+pub mod ClausesEnough
+pub mod ClausesNeeded
+pub mod Clauses
 pub mod Corners

@@ -3,7 +3,7 @@
 -- Assumes nothing.
 use mathlib.Core.Path.{_≡_, refl, sym, ap, subst, _∙_}
 use mathlib.Core.Bool.{Bool, true, false, not, _&&_, _||_}
-use mathlib.Core.List.{List}
+use mathlib.Core.List.{List, filterMap}
 use Prim.Native.Nat.{ℕ, _+_, _-_, _≤_, _<_}
 use native.Mathlib.Omega.{arith}
 use lib.Dec.{leb}
@@ -58,6 +58,7 @@ and-true false = refl
 exact-rang : (B : Type 0) (L M : Ledger) (passes : Line → Bool) (N : ℕ) (s : Set) (l : List ℕ) (q : Ring) → (k : Rang B L N 0 (fromStart s l) q) → Safe B s
     → ((h : Handle) → called L N h ≡ passes (M .line h) && leb (M .line h .due) N) → Rising (λ h. M .line h .due) 0 (k .who)
     → Exact M passes N (seen (handed (rang q)))
+unfolding filterMap
 exact-rang B L M passes N s l q k safe same rising =
     rw (k .written) (record { each-once = λ h. k .exact safe h ∙ ap bit (same h); in-order = rising; counted = omega (arith, k .counted) })
 

@@ -3,7 +3,7 @@
 use mathlib.Core.Path.{_≡_, refl, sym, ap, subst, _∙_}
 use mathlib.Core.Bool.{Bool, true, false, not, cond, _&&_, _||_}
 use mathlib.Core.Option.{some}
-use mathlib.Core.List.{List, [], _∷_, _++_, map, append-nil, append-assoc}
+use mathlib.Core.List.{List, [], _∷_, _++_, filterMap, filterMap-cons-some, filterMap-append, append-nil, append-assoc}
 use Prim.Native.Nat.{ℕ, zero, suc, _+_, _≤_, _<_, _^_}
 use native.Mathlib.Omega.{arith}
 use lib.Dec.{leb}
@@ -21,14 +21,14 @@ use Rattle.state.specs.declared.Timer.{Timer}
 use Rattle.state.specs.declared.Set.{Set}
 use Rattle.state.specs.declared.Handle.{Handle}
 use Rattle.state.specs.State.{isWaiting}
-use Rattle.state.specs.Handles.{handleOf, handle-discrete}
+use Rattle.state.specs.Handles.{namedBy, handle-discrete}
 use Rattle.state.specs.Sound.{Sound}
-use Rattle.state.proofs.Handles.{place-ranged}
+use Rattle.state.proofs.Handles.{place-ranged, named-word}
 use Rattle.moves.specs.Rules.{Ring, dueBy, rungOf, ringFrom}
 use Rattle.laws.specs.EntryOf.{entryOf, waiting}
 use Rattle.laws.proofs.RungSound.{due-some, rung-sound}
 use Rattle.laws.proofs.EntryOfPop.{due-head, head-entry, head-least, no-entry, not-due, rung-timer-other, rung-timer-head, rung-entry-other, rung-entry-head}
-use Rattle.laws.proofs.Written.{headReports, headWord, rung-words, rung-long, rung-reported, rung-left, handle-of-word}
+use Rattle.laws.proofs.Written.{headReports, headWord, rung-words, rung-long, rung-reported, rung-left}
 use Rattle.promises.specs.Turns.{Line, Ledger, rung}
 use Rattle.promises.proofs.Told.{told, told-none, told-other, told-same, told-append}
 use Rattle.promises.proofs.Tracks.{Tracks, bit-small}
@@ -47,14 +47,10 @@ NoneBefore s b = (x : ℕ) (e : Entry) → x < cap → entryOf s x ≡ some e �
 pub record Rang (B : Type 0) (L : Ledger) (N b : ℕ) (r q : Ring) : Type 0 where
   pub who : List Handle
   pub tracks : Tracks B (q .set) (told who L)
-  pub written : map handleOf (take (q .reported) (q .list)) ≡ map handleOf (take (r .reported) (r .list)) ++ who
+  pub written : filterMap namedBy (take (q .reported) (q .list)) ≡ filterMap namedBy (take (r .reported) (r .list)) ++ who
   pub counted : q .reported ≡ r .reported + length who
   pub exact : Safe B (r .set) → (h : Handle) → times handle-discrete h who ≡ bit (called L N h)
   pub sorted : Safe B (r .set) → Rising (λ h. L .line h .due) b who
-
-map-append : (f : ℕ → Handle) (xs ys : List ℕ) → map f (xs ++ ys) ≡ map f xs ++ map f ys
-map-append f [] ys = refl
-map-append f (x ∷ xs) ys = ap (λ (l : List Handle). f x ∷ l) (map-append f xs ys)
 
 -- a list that rises from b rises from what is lower
 rising-from : (f : Handle → ℕ) (a b : ℕ) (R : List Handle) → a ≤ b → Rising f b R → Rising f a R
@@ -77,7 +73,7 @@ module _ (B : Type 0) (N : ℕ) where
   over r L b tracks late = record {
     who = [];
     tracks = subst (Tracks B (r .set)) (sym (told-none L)) tracks;
-    written = sym (append-nil (map handleOf (take (r .reported) (r .list))));
+    written = sym (append-nil (filterMap namedBy (take (r .reported) (r .list))));
     counted = omega arith;
     exact = λ _ h. ap bit (sym (is-false (called L N h) (missed h)));
     sorted = λ _. tt;
@@ -111,8 +107,10 @@ module _ (B : Type 0) (N : ℕ) where
         (λ n. safe x c (ap (λ (t : Timer). isWaiting (t .waiting)) (sym (rung-timer-other r sound some-left x n)) ∙ w))
 
     -- the head's word names the head's handle
-    heard-words : (m : Bool) → map handleOf (cond m (headWord r ∷ []) []) ≡ heardIf m r
-    heard-words true = ap (λ (h : Handle). h ∷ []) (handle-of-word (headHandle r) (omega (arith, place-ranged (e .place .0) (head-in B r L tracks sound some-left))))
+    heard-words : (m : Bool) → filterMap namedBy (cond m (headWord r ∷ []) []) ≡ heardIf m r
+    unfolding filterMap
+    heard-words true =
+        filterMap-cons-some namedBy (headWord r) [] (named-word (headHandle r) (place-ranged (e .place .0) (head-in B r L tracks sound some-left)))
     heard-words false = refl
 
     -- one report more, of a handle that is ready and due, to a list that is exact for the ledger that has it
@@ -141,10 +139,10 @@ module _ (B : Type 0) (N : ℕ) where
       tracks = subst (Tracks B (q .set)) (told-append (heard r) (k .who) L) (k .tracks);
       written =
           k .written
-          ∙ ap (λ (l : List ℕ). map handleOf l ++ k .who) (rung-words r room)
-          ∙ ap (λ (l : List Handle). l ++ k .who) (map-append handleOf (take (r .reported) (r .list)) (cond (headReports r) (headWord r ∷ []) []))
-          ∙ ap (λ (l : List Handle). map handleOf (take (r .reported) (r .list)) ++ l ++ k .who) (heard-words (headReports r))
-          ∙ append-assoc (map handleOf (take (r .reported) (r .list))) (heard r) (k .who);
+          ∙ ap (λ (l : List ℕ). filterMap namedBy l ++ k .who) (rung-words r room)
+          ∙ ap (λ (l : List Handle). l ++ k .who) (filterMap-append namedBy (take (r .reported) (r .list)) (cond (headReports r) (headWord r ∷ []) []))
+          ∙ ap (λ (l : List Handle). filterMap namedBy (take (r .reported) (r .list)) ++ l ++ k .who) (heard-words (headReports r))
+          ∙ append-assoc (filterMap namedBy (take (r .reported) (r .list))) (heard r) (k .who);
       counted = k .counted ∙ ap (λ (n : ℕ). n + length (k .who)) (rung-reported r) ∙ tally (headReports r);
       exact = λ safe. all-exact safe (headReports r) refl (k .exact (still-safe safe));
       sorted = λ safe. all-sorted safe (headReports r) refl (k .sorted (still-safe safe));

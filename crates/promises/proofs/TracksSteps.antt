@@ -3,7 +3,7 @@
 use mathlib.Core.Path.{_≡_, refl, sym, ap, subst, _∙_}
 use mathlib.Core.Bool.{true, false}
 use mathlib.Core.Option.{some}
-use mathlib.Core.List.{List, map}
+use mathlib.Core.List.{List, filterMap}
 use Prim.Native.Nat.{ℕ, _+_, _≤_, _<_, _^_}
 use native.Mathlib.Omega.{arith}
 use lib.ListN.{length, take}
@@ -16,7 +16,7 @@ use Rattle.interval.specs.declared.Policy.{Policy}
 use Rattle.interval.specs.Rules.{tickOf, restartOf}
 use Rattle.state.specs.declared.Set.{Set}
 use Rattle.state.specs.declared.Handle.{Handle}
-use Rattle.state.specs.Handles.{handleOf}
+use Rattle.state.specs.Handles.{namedBy}
 use Rattle.state.specs.Sound.{Sound}
 use Rattle.moves.specs.Rules.{touchedOf, drainedOf, Ring, advancedOf}
 use Rattle.timers.specs.declared.Call.{Call}
@@ -63,7 +63,7 @@ advanced-rang B s L N l low tracks sound room =
 
 -- whom the words of its list name
 abbrev pub rangOut : Ring → List Handle
-rangOut q = map handleOf (take (q .reported) (q .list))
+rangOut q = filterMap namedBy (take (q .reported) (q .list))
 
 module _ (B : Type 0) (s : Set) (L : Ledger) (fit : Fit s) (low : B → Low L) (f : Follows B s L) where
   -- what a call leaves, with what the ledger has of it
@@ -114,6 +114,7 @@ module _ (B : Type 0) (s : Set) (L : Ledger) (fit : Fit s) (low : B → Low L) (
   -- the reports of an advance from a set that is as the ledger says
   rang-follows : (r : Set) (M : Ledger) (N : ℕ) (l : List ℕ) → (B → Low M) → Tracks B r M → Housed r M → Sound r → r .closed ≡ false → M .closed ≡ false
       → cap ≤ length l → Follows B (advancedOf r N l .set) (told (rangOut (advancedOf r N l)) M)
+  unfolding filterMap
   rang-follows r M N l lw tr o ok c k room =
       let g = advanced-rang B r M N l lw tr ok room in
       open-follows B (advancedOf r N l .set) (told (rangOut (advancedOf r N l)) M) (advanced-keeps r N l .1 ∙ c) k

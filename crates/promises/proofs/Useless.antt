@@ -4,7 +4,7 @@
 use mathlib.Core.Path.{_≡_, refl, sym, ap, _∙_}
 use mathlib.Core.Bool.{true, false}
 use mathlib.Core.Option.{Option, none, some}
-use mathlib.Core.List.{List, [], _∷_}
+use mathlib.Core.List.{List, [], _∷_, filterMap}
 use Prim.Native.Nat.{ℕ, _<_, _^_}
 use native.Mathlib.Omega.{arith}
 use native.Mathlib.Decide.{ℕ-discrete}
@@ -108,7 +108,7 @@ freeing-fails m =
 
 -- add 10, turn 10, poll 0:0: it must be fired, and is pending
 pub pending-fails : Meets pending every → ⊥
-unfolding note next from upd ℕ-discrete handle-discrete Occurs.has Set.step Set.guarded Set.addOf Set.turnOf Set.pollOf Set.liveAt touchedOf taken lowestFree settledOf drainFrom dueBy rungOf ringFrom advancedOf State.waitsAt State.afterAt State.listScan State.placeOk State.entryScan State.firstPlace State.placeScan State.faultOf State.soundOf pushSound removeSound popSound pushedOf removedOf filledOf vacatedOf addedOf takenOf upFrom putAt faultOf countFault positionFault orderFault chainFault countOk nextAt emptyAt fullAt firstBad faultAt count
+unfolding note next from upd ℕ-discrete handle-discrete filterMap Occurs.has Set.step Set.guarded Set.addOf Set.turnOf Set.pollOf Set.liveAt touchedOf taken lowestFree settledOf drainFrom dueBy rungOf ringFrom advancedOf State.waitsAt State.afterAt State.listScan State.placeOk State.entryScan State.firstPlace State.placeScan State.faultOf State.soundOf pushSound removeSound popSound pushedOf removedOf filledOf vacatedOf addedOf takenOf upFrom putAt faultOf countFault positionFault orderFault chainFault countOk nextAt emptyAt fullAt firstBad faultAt count
 pending-fails m =
     unlike (accepted (polled 0)) (accepted (polled 1)) refl
     (m ((C.Add 10, room) ∷ (C.Turn 10, room) ∷ []) refl .answers (C.Poll (0 with-use 0)) [] refl)
@@ -127,29 +127,29 @@ roomless-fails m = unlike (accepted (counts 0 0)) (refused 5) refl (m [] refl .a
 
 -- add 10, turn 10: nothing is reported, though 0:0 is owed and due
 pub mute-fails : Meets mute every → ⊥
-unfolding note next from upd ℕ-discrete handle-discrete Occurs.times Set.step Set.guarded Set.addOf Set.turnOf touchedOf taken lowestFree State.waitsAt State.afterAt State.listScan State.placeOk State.entryScan State.firstPlace State.placeScan State.faultOf State.soundOf faultOf countFault positionFault orderFault chainFault countOk firstBad faultAt count
+unfolding note next from upd ℕ-discrete handle-discrete filterMap Occurs.times Set.step Set.guarded Set.addOf Set.turnOf touchedOf taken lowestFree State.waitsAt State.afterAt State.listScan State.placeOk State.entryScan State.firstPlace State.placeScan State.faultOf State.soundOf faultOf countFault positionFault orderFault chainFault countOk firstBad faultAt count
 mute-fails m = differ (m ((C.Add 10, room) ∷ []) refl .turns 10 room refl refl .each-once (0 with-use 0))
 
 -- add 10, turn 10, turn 10: the second turn reports 0:0 again, though it is no longer owed
 pub stuck-fails : Meets stuck every → ⊥
-unfolding note next from upd ℕ-discrete handle-discrete Occurs.has Occurs.times Set.step Set.guarded Set.addOf Set.turnOf touchedOf taken lowestFree settledOf drainFrom dueBy rungOf ringFrom advancedOf State.waitsAt State.afterAt State.listScan State.placeOk State.entryScan State.firstPlace State.placeScan State.faultOf State.soundOf pushSound removeSound popSound pushedOf removedOf filledOf vacatedOf addedOf takenOf upFrom putAt faultOf countFault positionFault orderFault chainFault countOk nextAt emptyAt fullAt firstBad faultAt count
+unfolding note next from upd ℕ-discrete handle-discrete filterMap Occurs.has Occurs.times Set.step Set.guarded Set.addOf Set.turnOf touchedOf taken lowestFree settledOf drainFrom dueBy rungOf ringFrom advancedOf State.waitsAt State.afterAt State.listScan State.placeOk State.entryScan State.firstPlace State.placeScan State.faultOf State.soundOf pushSound removeSound popSound pushedOf removedOf filledOf vacatedOf addedOf takenOf upFrom putAt faultOf countFault positionFault orderFault chainFault countOk nextAt emptyAt fullAt firstBad faultAt count
 stuck-fails m =
     differ (sym (m ((C.Add 10, room) ∷ (C.Turn 10, room) ∷ []) refl .turns 10 room refl refl .each-once (0 with-use 0)))
 
 -- add 10, cancel 0:0, turn 10: 0:0 is reported, though it was cancelled
 pub heedless-fails : Meets heedless every → ⊥
-unfolding note next from upd ℕ-discrete handle-discrete Occurs.times Set.step Set.guarded Set.addOf Set.cancelOf Set.turnOf Set.liveAt touchedOf taken lowestFree settledOf drainFrom dueBy rungOf ringFrom advancedOf State.waitsAt State.afterAt State.listScan State.placeOk State.entryScan State.firstPlace State.placeScan State.faultOf State.soundOf pushSound pushedOf addedOf takenOf upFrom putAt faultOf countFault positionFault orderFault chainFault countOk firstBad faultAt count
+unfolding note next from upd ℕ-discrete handle-discrete filterMap Occurs.times Set.step Set.guarded Set.addOf Set.cancelOf Set.turnOf Set.liveAt touchedOf taken lowestFree settledOf drainFrom dueBy rungOf ringFrom advancedOf State.waitsAt State.afterAt State.listScan State.placeOk State.entryScan State.firstPlace State.placeScan State.faultOf State.soundOf pushSound pushedOf addedOf takenOf upFrom putAt faultOf countFault positionFault orderFault chainFault countOk firstBad faultAt count
 heedless-fails m =
     differ (sym (m ((C.Add 10, room) ∷ (C.Cancel (0 with-use 0), room) ∷ []) refl .turns 10 room refl refl .each-once (0 with-use 0)))
 
 -- add 10, turn 10: 0:0 is not drained, so it is not reported, though it is owed and due
 pub undrained-fails : Meets undrained every → ⊥
-unfolding note next from upd ℕ-discrete handle-discrete Occurs.times Set.step Set.guarded Set.addOf Set.advanceOf touchedOf taken lowestFree ringFrom advancedOf State.waitsAt State.afterAt State.listScan State.placeOk State.entryScan State.firstPlace State.placeScan State.faultOf State.soundOf faultOf countFault positionFault orderFault chainFault countOk firstBad faultAt count
+unfolding note next from upd ℕ-discrete handle-discrete filterMap Occurs.times Set.step Set.guarded Set.addOf Set.advanceOf touchedOf taken lowestFree ringFrom advancedOf State.waitsAt State.afterAt State.listScan State.placeOk State.entryScan State.firstPlace State.placeScan State.faultOf State.soundOf faultOf countFault positionFault orderFault chainFault countOk firstBad faultAt count
 undrained-fails m = differ (m ((C.Add 10, room) ∷ []) refl .turns 10 room refl refl .each-once (0 with-use 0))
 
 -- add 10, turn 9: 0:0 is reported, though it is not due
 pub hasty-fails : Meets hasty every → ⊥
-unfolding note next from upd ℕ-discrete handle-discrete Occurs.times Set.step Set.guarded Set.addOf Set.turnOf touchedOf taken lowestFree settledOf drainFrom dueBy rungOf ringFrom advancedOf State.waitsAt State.afterAt State.listScan State.placeOk State.entryScan State.firstPlace State.placeScan State.faultOf State.soundOf pushSound pushedOf addedOf takenOf upFrom putAt faultOf countFault positionFault orderFault chainFault countOk firstBad faultAt count
+unfolding note next from upd ℕ-discrete handle-discrete filterMap Occurs.times Set.step Set.guarded Set.addOf Set.turnOf touchedOf taken lowestFree settledOf drainFrom dueBy rungOf ringFrom advancedOf State.waitsAt State.afterAt State.listScan State.placeOk State.entryScan State.firstPlace State.placeScan State.faultOf State.soundOf pushSound pushedOf addedOf takenOf upFrom putAt faultOf countFault positionFault orderFault chainFault countOk firstBad faultAt count
 hasty-fails m = differ (sym (m ((C.Add 10, room) ∷ []) refl .turns 9 room refl refl .each-once (0 with-use 0)))
 
 -- the premise: after an add there are no resets
@@ -161,7 +161,7 @@ added-low =
 
 -- add 10, drain, advance 10: nothing is reported, though 0:0 is owed, due and drained
 pub idle-fails : Meets idle every → ⊥
-unfolding Bounded note next from upd ℕ-discrete handle-discrete Occurs.times Set.step Set.guarded Set.addOf Set.drainOf Set.advanceOf touchedOf taken lowestFree ringFrom advancedOf State.waitsAt State.afterAt State.listScan State.placeOk State.entryScan State.firstPlace State.placeScan State.faultOf State.soundOf faultOf countFault positionFault orderFault chainFault countOk firstBad faultAt count
+unfolding Bounded note next from upd ℕ-discrete handle-discrete filterMap Occurs.times Set.step Set.guarded Set.addOf Set.drainOf Set.advanceOf touchedOf taken lowestFree ringFrom advancedOf State.waitsAt State.afterAt State.listScan State.placeOk State.entryScan State.firstPlace State.placeScan State.faultOf State.soundOf faultOf countFault positionFault orderFault chainFault countOk firstBad faultAt count
 idle-fails m =
     let cs : List (Call × List ℕ) = (C.Add 10, room) ∷ (C.Drain, room) ∷ [] in
     let low : Bounded idle (run idle []) cs = ((λ h. omega arith), (added-low, (λ h. omega arith))) in
@@ -169,7 +169,7 @@ idle-fails m =
 
 -- add 10, turn 9: none is answered as the next wake, though 0:0 is owed
 pub asleep-fails : Meets asleep every → ⊥
-unfolding Bounded note next from upd ℕ-discrete handle-discrete Occurs.has Set.step Set.guarded Set.addOf Set.turnOf Set.nextWakeOf touchedOf taken lowestFree settledOf drainFrom dueBy ringFrom advancedOf State.waitsAt State.afterAt State.listScan State.placeOk State.entryOk State.entryScan State.firstPlace State.placeScan State.faultOf State.soundOf pushSound pushedOf addedOf takenOf upFrom putAt faultOf countFault positionFault orderFault chainFault countOk positionOk emptyAt fullAt firstBad faultAt count
+unfolding Bounded note next from upd ℕ-discrete handle-discrete filterMap Occurs.has Set.step Set.guarded Set.addOf Set.turnOf Set.nextWakeOf touchedOf taken lowestFree settledOf drainFrom dueBy ringFrom advancedOf State.waitsAt State.afterAt State.listScan State.placeOk State.entryOk State.entryScan State.firstPlace State.placeScan State.faultOf State.soundOf pushSound pushedOf addedOf takenOf upFrom putAt faultOf countFault positionFault orderFault chainFault countOk positionOk emptyAt fullAt firstBad faultAt count
 asleep-fails m =
     let cs : List (Call × List ℕ) = (C.Add 10, room) ∷ [] in
     let low : Bounded asleep (run asleep []) cs = ((λ h. omega arith), added-low) in

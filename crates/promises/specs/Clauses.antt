@@ -1,8 +1,9 @@
 -- The clauses of soundness, RULES.md, section 8, and of the heap's test, section 3: each a test of its own, written from the words of
 -- the rules. With the test that the calls make (`soundOf`) they share the capacity, the parent of a position (`parent`), the invalid bit
 -- of a word (`invalidIn`), how a link and the list's head are read (`isWaiting`, `nextIn`, `headOf`), and nothing of the test itself.
--- specs/States.antt has worked sets on which the two are held to each other. A clause with two halves is two tests. Clause 7 has none:
--- only a live timer of the type `Life` has a deadline. Nor has a number that its type keeps in range: a word, a use number, a time.
+-- proofs/Clauses.antt shows that the two say the same of every set, and specs/States.antt has worked sets for each clause. A clause with
+-- two halves is two tests. Clause 7 has none: only a live timer of the type `Life` has a deadline. Nor has a number that its type keeps
+-- in range: a word, a use number, a time.
 -- Assumes nothing.
 use mathlib.Core.Bool.{Bool, true, false, not, cond, _&&_, _||_}
 use mathlib.Core.Option.{Option, none, some}

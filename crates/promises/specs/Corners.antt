@@ -2,7 +2,7 @@
 -- Each is worked out from RULES.md by hand. A row is right where the rules compute its answer.
 -- Assumes nothing.
 use mathlib.Core.Bool.{Bool, cond, _&&_}
-use mathlib.Core.Option.{some}
+use mathlib.Core.Option.{Option, none, some}
 use mathlib.Core.List.{List, [], _∷_}
 use Prim.Native.Nat.{ℕ, _-_}
 use lib.Dec.{eqb}
@@ -20,7 +20,9 @@ use Rattle.state.specs.declared.Held.{Held}
 use Rattle.state.specs.declared.Held.the-variants as Held
 use Rattle.state.specs.declared.Timer.{Timer}
 use Rattle.state.specs.declared.Set.{Set}
+use Rattle.state.specs.declared.Handle.{Handle}
 use Rattle.state.specs.State.{freshOf, timerAt}
+use Rattle.state.specs.Handles.{namedBy}
 use Rattle.timers.specs.declared.Call.{Call}
 use Rattle.timers.specs.declared.Call.the-variants as C
 use Rattle.timers.specs.Calls.{Value, nothing, handle, counts, wake, polled, time, Lent, lent, step}
@@ -37,6 +39,8 @@ pub data Corner : Type 0 where
   calls : Set → List Call → List (Answer Value) → Corner
   -- a drain of this set leaves this at place 0
   drain : Set → Timer → Corner
+  -- a word names this handle, or nobody
+  names : ℕ → Option Handle → Corner
 
 pub record Row : Type 0 where
   pub number : ℕ
@@ -45,7 +49,7 @@ pub record Row : Type 0 where
 abbrev pub row : ℕ → Corner → Row
 row n c = record { number = n; asked = c }
 
--- an answer, and a place, as numbers to compare them by
+-- an answer, a place, and whom a word names, as numbers to compare them by
 abbrev pub timeCode : Answer ℕ → List ℕ
 timeCode (accepted t) = 0 ∷ t ∷ []
 timeCode (refused n) = 1 ∷ n ∷ []
@@ -65,6 +69,10 @@ abbrev pub heldCode : Held → List ℕ
 heldCode Held.Nothing = 0 ∷ []
 heldCode (Held.At q) = 1 ∷ q .0 ∷ []
 
+abbrev pub nameCode : Option Handle → List ℕ
+nameCode none = []
+nameCode (some h) = h .place .0 ∷ h .uses ∷ []
+
 abbrev pub samePlace : Timer → Timer → Bool
 samePlace t u =
     sameNumbers (lifeCode (t .life)) (lifeCode (u .life))
@@ -76,6 +84,7 @@ right (poll w n) = sameNumbers (timeCode (pollOf w)) (timeCode (accepted n))
 right (skip T period N a) = sameNumbers (timeCode (tickOf Skip T period N)) (timeCode a)
 right (calls s cs answers) = answered (lent s (replicate cap 0)) cs answers
 right (drain s t) = samePlace (timerAt (step s C.Drain [] .state .set) 0) t
+right (names w h) = sameNumbers (nameCode (namedBy w)) (nameCode h)
 
 -- the numbers of the rows that are wrong
 abbrev pub wrong : List Row → List ℕ
@@ -148,4 +157,11 @@ corners =
     ∷ C.Tick (0 with-use 0) Skip 10 18446744073709551605 ∷ C.Drain ∷ C.NextWake ∷ [])
     (accepted (handle (0 with-use 0)) ∷ accepted (counts 1 1) ∷ refused 6 ∷ accepted (polled 1)
     ∷ accepted (time 0) ∷ accepted nothing ∷ accepted (wake (some 18446744073709551610)) ∷ []))
+    -- WHOM A WORD NAMES: 2^32 + 1 names use 1 of place 1. 2^16, with the lowest of the zero bits set, and 2^31, with the highest, name
+    -- nobody; with the bits beside them set, the largest place and the next use
+    ∷ row 10 (names 4294967297 (some (1 with-use 1)))
+    ∷ row 10 (names 65536 none)
+    ∷ row 10 (names 2147483648 none)
+    ∷ row 10 (names 65535 (some (65535 with-use 0)))
+    ∷ row 10 (names 4294967296 (some (0 with-use 1)))
     ∷ []

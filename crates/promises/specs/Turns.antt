@@ -5,7 +5,7 @@
 use mathlib.Core.Path.{_≡_}
 use mathlib.Core.Bool.{Bool, true, false, not, cond, _&&_, _||_}
 use mathlib.Core.Option.{Option, none, some}
-use mathlib.Core.List.{List, [], _∷_, map}
+use mathlib.Core.List.{List, [], _∷_, filterMap}
 use Prim.Native.Nat.{ℕ, zero, suc, _+_, _≤_, _<_, _^_}
 use native.Mathlib.Decide.{ℕ-discrete}
 use lib.Dec.{ltb, leb, eqb}
@@ -19,7 +19,7 @@ use Rattle.refusals.specs.Answer.{Answer, accepted, refused, valueOr, isAccepte
 use Rattle.heap.specs.Capacity.{cap}
 use Rattle.interval.specs.Rules.{tickOf, restartOf}
 use Rattle.state.specs.declared.Handle.{Handle}
-use Rattle.state.specs.Handles.{handleOf, handle-discrete}
+use Rattle.state.specs.Handles.{namedBy, handle-discrete}
 use Rattle.timers.specs.declared.Call.{Call}
 use Rattle.timers.specs.declared.Call.the-variants as C
 use Rattle.timers.specs.Values.{Value, nothing, handle, counts, wake, polled, time, handleIn, reportsIn}
@@ -30,13 +30,14 @@ pub record Engine : Type 1 where
   pub fresh : State
   pub step : State → Call → List ℕ → Outcome (State × List ℕ) Value
 
--- WHAT THE CALLER SEES: the answer, and whom the words of the list name, from its start to the count answered
+-- WHAT THE CALLER SEES: the answer, and whom the words of the list name, from its start to the count answered. A word that names nobody
+-- is no report: there are then fewer than the count says
 pub record Seen : Type 0 where
   pub answer : Answer Value
   pub reports : List Handle
 
 abbrev pub seen : {S : Type 0} → Outcome (S × List ℕ) Value → Seen
-seen o = record { answer = o .answer; reports = map handleOf (take (reportsIn (o .answer)) (o .state .1)) }
+seen o = record { answer = o .answer; reports = filterMap namedBy (take (reportsIn (o .answer)) (o .state .1)) }
 
 -- THE LEDGER, kept from calls and answers alone: a line for each handle, how many handles of each place were given out, and whether a
 -- close was accepted
@@ -115,7 +116,8 @@ owed l = l .live && not (l .reported)
 abbrev pub settled : Line → Bool
 settled l = not (l .leaving) && (not (l .live) || l .drained)
 
--- the reports: exactly the handles that pass and are due at N, each once, no later deadline before an earlier one, all counted
+-- the reports: exactly the handles that pass and are due at N, each once, no later deadline before an earlier one; and as many as the
+-- count says, so that each of its words names one
 pub record Exact (L : Ledger) (passes : Line → Bool) (N : ℕ) (a : Seen) : Type 0 where
   pub each-once : (h : Handle) → times handle-discrete h (a .reports) ≡ bit (passes (L .line h) && leb (L .line h .due) N)
   pub in-order : Rising (λ h. L .line h .due) 0 (a .reports)

@@ -92,3 +92,8 @@ line-wake = refl
 pub line-advance : lineOf (made 4 (accepted (counts 1 2)) (some 1000)) (0xffff_ffff_0000_003f ∷ []) ≡ text "4 0 1 63:4294967295 w 1000\n"
 unfolding lineOf answerText valuesText decimal
 line-advance = refl
+
+-- a word with one of the 16 zero bits set, between two that name handles
+pub line-nobody : lineOf (made 5 (accepted (counts 3 3)) none) (1 ∷ 65536 ∷ 4294967297 ∷ []) ≡ text "5 0 3 1:0 ? 1:1 w -\n"
+unfolding lineOf answerText valuesText decimal
+line-nobody = refl

@@ -11,7 +11,7 @@ use lib.ListN.{length, take, drop}
 use Rattle.refusals.specs.Answer.{Answer, accepted, refused}
 use Rattle.heap.specs.Capacity.{cap}
 use Rattle.state.specs.declared.Handle.{Handle}
-use Rattle.state.specs.Handles.{handleOf}
+use Rattle.state.specs.Handles.{namedBy}
 use Rattle.timers.specs.Calls.{Value, nothing, handle, counts, wake, polled, time}
 use Rattle.records.specs.Answers.{Told, unread, made}
 
@@ -41,10 +41,15 @@ spaced t = text " " ++ t
 abbrev pub handleText : Handle → List ℕ
 handleText h = decimal (h .place .0) ++ (text ":" ++ decimal (h .uses))
 
--- the handles that words of a report list name, in their order
+-- whom a word names: a handle, or a question mark for nobody
+abbrev pub nameText : Option Handle → List ℕ
+nameText none = text "?"
+nameText (some h) = handleText h
+
+-- whom the words of a report list name, in their order
 abbrev pub handlesText : List ℕ → List ℕ
 handlesText [] = []
-handlesText (w ∷ ws) = spaced (handleText (handleOf w)) ++ handlesText ws
+handlesText (w ∷ ws) = spaced (nameText (namedBy w)) ++ handlesText ws
 
 -- a next wake is a time, or a stroke for none
 abbrev pub wakeText : Option ℕ → List ℕ

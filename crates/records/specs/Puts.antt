@@ -7,13 +7,13 @@ use lib.ListN.{length, take}
 use lib.Seq.{sets}
 use Rattle.word.specs.declared.Polled.{Polled}
 use Rattle.word.specs.Rules as Word
-use Rattle.state.specs.Handles.{handleOf}
+use Rattle.state.specs.Handles.{namedBy}
 use Rattle.timers.specs.declared.Reply.{Reply}
 use Rattle.timers.specs.Calls.{said, pollBy}
 use Rattle.records.specs.declared.Wake.{Wake}
 use Rattle.records.specs.declared.Line.{Line}
 use Rattle.records.specs.Answers.{saidWake, saidLine}
-use Rattle.records.specs.Lines.{decimal, spaced, handleText, handlesText, wakeText, reportText, answerText, lineOf, numberRoom, handleRoom, reportRoom, answerRoom, room}
+use Rattle.records.specs.Lines.{decimal, spaced, nameText, handlesText, wakeText, reportText, answerText, lineOf, numberRoom, handleRoom, reportRoom, answerRoom, room}
 
 -- the text t, of at most k bytes, is stored in `out` from `at` on, byte by byte, which gives `out′`, and r is the offset behind it
 pub record Puts (k : ℕ) (out : List ℕ) (at : ℕ) (t : List ℕ) (out′ : List ℕ) (r : ℕ) : Type 0 where
@@ -37,9 +37,9 @@ PutsReport l n w out at out′ r = Puts (reportRoom n) out at (reportText (take 
 abbrev pub PutsHandles : List ℕ → ℕ → List ℕ → ℕ → List ℕ → ℕ → Type 0
 PutsHandles l n out at out′ r = Puts (n * handleRoom) out at (handlesText (take n l)) out′ r
 
--- a blank, and the handle of a word; a wake; a number
+-- a blank, and whom a word names; a wake; a number
 abbrev pub PutsHandle : ℕ → List ℕ → ℕ → List ℕ → ℕ → Type 0
-PutsHandle w out at out′ r = Puts handleRoom out at (spaced (handleText (handleOf w))) out′ r
+PutsHandle w out at out′ r = Puts handleRoom out at (spaced (nameText (namedBy w))) out′ r
 
 abbrev pub PutsWake : Wake → List ℕ → ℕ → List ℕ → ℕ → Type 0
 PutsWake w out at out′ r = Puts numberRoom out at (spaced (wakeText (saidWake w))) out′ r

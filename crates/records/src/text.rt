@@ -2,6 +2,7 @@
 // as they were, and answers the offset behind the part.
 use crate::Line;
 use crate::Wake;
+use state::Named;
 use timers::Reply;
 use word::Polled;
 ghost use Prim.Native.Nat.{_+_, _*_, _≤_, _<_};
@@ -98,7 +99,7 @@ fn put_wake(out: &mut [u8], at: usize, wake: Wake) -> usize
     }
 }
 
-// Puts the handles that the first words of a list name, each behind a blank.
+// Puts whom the first words of a list name, each behind a blank.
 fn put_handles(out: &mut [u8], at: usize, list: &[u64], count: usize) -> usize
     requires { ⌜ count ≤ length (now list) ⌝ }
     requires { ⌜ at + count * handleRoom ≤ length (now out) ⌝ }
@@ -113,15 +114,20 @@ fn put_handles(out: &mut [u8], at: usize, list: &[u64], count: usize) -> usize
     next
 }
 
-// Puts a blank and the handle that a word names.
+// Puts a blank and the handle that a word names, or a question mark where it names none.
 fn put_handle(out: &mut [u8], at: usize, word: u64) -> usize
     requires { ⌜ at + handleRoom ≤ length (now out) ⌝ }
     ensures { λ r. ⌜ PutsHandle word (now (out .entry)) at (now (out .exit)) r ⌝ }
 {
-    let a = put(out, at, b' ');
-    let b = put_digits(out, a, word & 0xffff_ffff);
-    let c = put(out, b, b':');
-    put_digits(out, c, word >> 32)
+    match state::handle_of(word) {
+        Named::Nobody => put_two(out, at, b' ', b'?'),
+        Named::Handle(handle) => {
+            let a = put(out, at, b' ');
+            let b = put_digits(out, a, handle.place.0 as u64);
+            let c = put(out, b, b':');
+            put_digits(out, c, handle.uses as u64)
+        }
+    }
 }
 
 // Puts a blank and a number.

@@ -2,8 +2,9 @@
 -- call does is in the rules of `timers`.
 -- Assumes nothing.
 use mathlib.Core.Bool.{cond}
+use mathlib.Core.Option.{Option, none, some}
 use mathlib.Core.List.{List}
-use Prim.Native.Nat.{ℕ, zero, suc, _+_, _/_, _%_, _^_}
+use Prim.Native.Nat.{ℕ, zero, suc, _+_, _%_, _^_}
 use lib.Dec.{ltb}
 use lib.ListN.{getD, replicate}
 use Rattle.refusals.specs.Answer.{Answer, accepted, refused, Outcome}
@@ -11,6 +12,7 @@ use Rattle.heap.specs.Capacity.{cap}
 use Rattle.state.specs.declared.Set.{Set}
 use Rattle.state.specs.declared.Handle.{Handle}
 use Rattle.state.specs.State.{freshOf}
+use Rattle.state.specs.Handles.{namedBy}
 use Rattle.timers.specs.Calls as Calls
 use Rattle.timers.specs.Calls.{Value, nothing, handle, counts, wake, polled, time}
 use Rattle.rounds.specs.declared.Run.{Run}
@@ -27,10 +29,6 @@ leastOf n = cond (ltb n cap) n cap
 -- the checksum with one more number
 abbrev pub mixedOf : ℕ → ℕ → ℕ
 mixedOf c n = wrap (wrap (wrap (c + c) + c) + n)
-
--- the handle that a word says
-abbrev pub handleIn : ℕ → Handle
-handleIn w = record { place = record { 0 = w % 2 ^ 16 }; uses = w / 2 ^ 32 }
 
 -- the counts of a turn
 abbrev pub countsOf : ℕ → ℕ → Counts
@@ -54,11 +52,16 @@ addFrom (suc k) d s = addFrom k (d + 1) (Calls.addOf s d .state)
 unfoldable pub startOf : Set
 startOf = Calls.drainOf (addFrom cap 1 freshOf) .state
 
+-- the timer that is named is reset to d; where nobody is named nothing changes
+abbrev pub resetBy : Set → Option Handle → ℕ → Set
+resetBy s none d = s
+resetBy s (some h) d = Calls.resetOf s h d .state
+
 -- the timer that a word names is reset to the deadline after the last one
 unfoldable pub resetOf : Run → ℕ → Run
 resetOf r w =
     let d = wrap (r .last + 1) in
-    record { set = Calls.resetOf (r .set) (handleIn w) d .state; last = d; sum = mixedOf (r .sum) w }
+    record { set = resetBy (r .set) (namedBy w) d; last = d; sum = mixedOf (r .sum) w }
 
 -- so many words of a report list, from the j-th on
 unfoldable pub resetFrom : ℕ → List ℕ → ℕ → Run → Run

@@ -5,15 +5,15 @@
 // that are to be due, a turn is made, and whoever is reported is reset, in the order of the reports, to the deadline after the last
 // one that was given. So the deadlines are always as many numbers in a row as there are places, the first of them one above the
 // reading, and each turn finds exactly as many timers due as were asked for.
-use heap::Place;
-use state::Handle;
+use state::Named;
 use state::Set;
 use timers::Reply;
 ghost use mathlib.Core.Path.{_≡_};
 ghost use Prim.Native.Nat.{_≤_};
 ghost use Rattle.heap.specs.Capacity.{cap};
+ghost use Rattle.state.specs.Handles.{saidNamed};
 ghost use Rattle.timers.specs.Calls.{said};
-ghost use Rattle.rounds.specs.Rules.{mixedOf, handleIn, countsIn, leastOf, startOf, resetOf, resetFrom};
+ghost use Rattle.rounds.specs.Rules.{mixedOf, countsIn, leastOf, startOf, resetBy, resetOf, resetFrom};
 ghost use Rattle.rounds.specs.Promises.{Runs, Rounds};
 
 // What is carried from one call to the next: the set, the deadline that was given last, and the checksum so far.
@@ -110,12 +110,24 @@ fn reset_one(run: Run, word: u64) -> Run
 {
     let s = run.set;
     let last = std::num::wrapping_add_u64(run.last, 1);
-    let a = timers::reset(s, handle_of(word), last);
-    let g = a.set;
     Run {
-        set: g,
+        set: reset_named(s, state::handle_of(word), last),
         last,
         sum: mixed(run.sum, word),
+    }
+}
+
+// The set with the timer reset that is named; where nobody is, as it was.
+fn reset_named(s: Set, named: Named, due: u64) -> Set
+    ensures { λ r. ⌜ r ≡ resetBy s (saidNamed named) due ⌝ }
+{
+    match named {
+        Named::Nobody => s,
+        Named::Handle(handle) => {
+            let a = timers::reset(s, handle, due);
+            let g = a.set;
+            g
+        }
     }
 }
 
@@ -132,16 +144,6 @@ fn mixed(sum: u64, number: u64) -> u64
 {
     let twice = std::num::wrapping_add_u64(sum, sum);
     std::num::wrapping_add_u64(std::num::wrapping_add_u64(twice, sum), number)
-}
-
-// The handle that a word of a report list says.
-fn handle_of(word: u64) -> Handle
-    ensures { λ r. ⌜ r ≡ handleIn word ⌝ }
-{
-    Handle {
-        place: Place((word & 0xffff) as u16),
-        uses: (word >> 32) as u32,
-    }
 }
 
 // The counts that a turn answers.

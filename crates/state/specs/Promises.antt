@@ -7,9 +7,10 @@ use Rattle.state.specs.declared.Waiting.{Waiting}
 use Rattle.state.specs.declared.First.{First}
 use Rattle.state.specs.declared.Set.{Set}
 use Rattle.state.specs.declared.Handle.{Handle}
+use Rattle.state.specs.declared.Named.{Named}
 use Rattle.state.specs.declared.fault.Fault.{Fault}
 use Rattle.state.specs.State.{isWaiting, headAfter, freshOf}
-use Rattle.state.specs.Handles.{handleWord}
+use Rattle.state.specs.Handles.{handleWord, namedBy, saidNamed}
 use Rattle.state.specs.Faults.{faultOf, soundOf}
 
 abbrev pub Fresh : Set → Type 0
@@ -23,6 +24,9 @@ IsSound s r = r ≡ soundOf s
 
 abbrev pub Words : Handle → ℕ → Type 0
 Words h r = r ≡ handleWord h
+
+abbrev pub Names : ℕ → Named → Type 0
+Names w r = saidNamed r ≡ namedBy w
 
 abbrev pub Waits : Waiting → Bool → Type 0
 Waits w r = r ≡ isWaiting w

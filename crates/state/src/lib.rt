@@ -1,5 +1,5 @@
 // The set of timers as it is kept: its places, the heap of entries, the waiting list and the closed mark. This crate has the
-// types, the fresh set, the test of soundness and the word of a handle; the calls are in `timers`.
+// types, the fresh set, the test of soundness, and the word of a handle with the way back; the calls are in `timers`.
 //
 // A place is one struct whose enums leave nothing over: only a live timer has a deadline, and a free place has no word. The
 // waiting list runs through the places: `first` names the place at its head, and each waiting timer the next one.
@@ -8,7 +8,7 @@ pub mod fault;
 use heap::Heap;
 use heap::Place;
 use heap::Slot;
-ghost use Rattle.state.specs.Promises.{Fresh, IsSound, Words};
+ghost use Rattle.state.specs.Promises.{Fresh, IsSound, Words, Names};
 
 // Whose place it is.
 pub enum Life {
@@ -61,6 +61,12 @@ pub struct Handle {
     pub uses: u32,
 }
 
+// Whom a word names.
+pub enum Named {
+    Nobody,
+    Handle(Handle),
+}
+
 // The fresh set: open, with every place free.
 pub fn fresh() -> Set
     ensures { λ r. ⌜ Fresh r ⌝ }
@@ -97,4 +103,17 @@ pub fn handle_word(handle: Handle) -> u64
     ensures { λ r. ⌜ Words handle r ⌝ }
 {
     ((handle.uses as u64) << 32) | (handle.place.0 as u64)
+}
+
+// The way back: the handle whose word this is, or nobody where one of the 16 zero bits is set.
+pub fn handle_of(word: u64) -> Named
+    ensures { λ r. ⌜ Names word r ⌝ }
+{
+    if (word >> 16) & 0xffff != 0 {
+        return Named::Nobody;
+    }
+    Named::Handle(Handle {
+        place: Place((word & 0xffff) as u16),
+        uses: (word >> 32) as u32,
+    })
 }

@@ -1,28 +1,26 @@
--- The reset is that of the rule, since its handle and its deadline are.
+-- The reset is that of the rule, since whom it names and its deadline are.
 -- Assumes nothing.
 use mathlib.Core.Path.{_≡_, ap, _∙_}
+use mathlib.Core.Option.{Option}
 use Prim.Native.Nat.{ℕ, _+_}
 use borrow.Author.Needs.{needs}
-use Rattle.refusals.specs.Answer.{Outcome}
-use Rattle.state.specs.declared.Set.{Set}
 use Rattle.state.specs.declared.Handle.{Handle}
-use Rattle.timers.specs.Calls.{Value}
-use Rattle.timers.specs.Calls as Calls
-use Rattle.rounds.specs.Rules.{wrap, handleIn, resetOf}
+use Rattle.state.specs.Handles.{namedBy}
+use Rattle.rounds.specs.Rules.{wrap, resetBy, resetOf}
 use Rattle.rounds.proofs.reset_one.Statement.{statement}
 use Rattle.rounds.proofs.reset_one.Tie as tie
 
 returns : tie.Need-returns
 unfolding resetOf
 returns c =
-    let a = c .before .before .before .before .before .before .args in
+    let a = c .before .before .before .before .before .args in
     let s = a .run .set in
-    let last = c .before .before .before .before .wrapping-add-u64 in
+    let last = c .before .before .before .wrapping-add-u64 in
     let d : last .result ≡ wrap (a .run .last + 1) = last .ensures in
-    let set : c .before .before .reset .result .set ≡ Calls.resetOf s (handleIn (a .word)) (wrap (a .run .last + 1)) .state =
-    ap (λ (o : Outcome Set Value). o .state) (c .before .before .reset .ensures)
-    ∙ ap (λ (h : Handle). Calls.resetOf s h (last .result) .state) (c .before .before .before .handle-of .ensures)
-    ∙ ap (λ (t : ℕ). Calls.resetOf s (handleIn (a .word)) t .state) d in
+    let set : c .before .reset-named .result ≡ resetBy s (namedBy (a .word)) (wrap (a .run .last + 1)) =
+    c .before .reset-named .ensures
+    ∙ ap (λ (h : Option Handle). resetBy s h (last .result)) (c .before .before .handle-of .ensures)
+    ∙ ap (λ (t : ℕ). resetBy s (namedBy (a .word)) t) d in
     λ i. record { set = set i; last = d i; sum = c .mixed .ensures i }
 
 pub reset-one-spec : {M : Type 1} → statement M

@@ -3,8 +3,8 @@
 use Prim.Native.Nat.{_-_, _≤_}
 use Rattle.heap.specs.Capacity.{cap}
 use borrow.Author.Needs.{needs}
-use Rattle.corners.proofs.lists.all_waiting.Statement.{statement}
-use Rattle.corners.proofs.lists.all_waiting.Tie as tie
+use Rattle.refused.proofs.lists.all_waiting.Statement.{statement}
+use Rattle.refused.proofs.lists.all_waiting.Tie as tie
 
 abbrev Inv-loop : tie.InvT-loop
 Inv-loop s₀ n₀ s n = n ≤ cap

@@ -1,29 +1,34 @@
--- The loop counts up to the length of the list; nothing else is claimed of it.
+-- The loop counts up to the capacity; nothing else is claimed of it.
 -- Assumes nothing.
 use Prim.Native.Nat.{_-_, _≤_}
-use lib.ListN.{length}
+use Rattle.heap.specs.Capacity.{cap}
 use borrow.Author.Needs.{needs}
-use Rattle.corners.proofs.tell.words.Statement.{statement}
-use Rattle.corners.proofs.tell.words.Tie as tie
+use Rattle.refused.proofs.heaps.full_heap.Statement.{statement}
+use Rattle.refused.proofs.heaps.full_heap.Tie as tie
 
 abbrev Inv-loop : tie.InvT-loop
-Inv-loop list i₀ t3 t4 i = i ≤ length list
+Inv-loop h₀ i₀ h i = i ≤ cap
 
 abbrev μ-loop : tie.MeasureT-loop
-μ-loop list i₀ t3 t4 i = length list - i
+μ-loop h₀ i₀ h i = cap - i
 
-pub words-spec : {M : Type 1} → statement M
-words-spec =
+pub full-heap-spec : {M : Type 1} → statement M
+full-heap-spec =
     tie.close
     (tie.spec
     Inv-loop
     μ-loop
+    (λ c κs. search needs)
+    (λ c. search needs)
     (λ c. search needs)
     (λ c. search needs)
     (λ c κs. search needs)
     (λ c. search needs)
     (λ c. search needs)
+    (λ c. search needs)
     (λ c κs. search needs)
+    (λ c. search needs)
+    (λ c. search needs)
     (λ c. search needs)
     (λ c. search needs)
     (λ c. search needs)

@@ -6,8 +6,8 @@ use Prim.Native.Nat.{ℕ, _-_, _≤_}
 use native.Mathlib.Omega.{arith}
 use lib.ListN.{length, length-set}
 use borrow.Author.Needs.{needs}
-use Rattle.corners.proofs.lists.mark.Statement.{statement}
-use Rattle.corners.proofs.lists.mark.Tie as tie
+use Rattle.refused.proofs.lists.mark.Statement.{statement}
+use Rattle.refused.proofs.lists.mark.Tie as tie
 
 record Going (list₀ list : List ℕ) (i : ℕ) : Type 0 where
   pub within : i ≤ length list₀

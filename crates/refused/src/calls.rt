@@ -1,15 +1,13 @@
 // Every call on a set: on a sound one, on an unsound one, which refuses each with 1, and on a closed one, which refuses all but two with
 // 2. The calls are made by `perform`, which makes each by its own function. Then what a handle and a tick are refused for.
-use crate::sets::open;
-use crate::sets::timer;
 use crate::tell;
 use heap::Place;
 use interval::Policy;
-use state::First;
 use state::Handle;
 use state::Held;
 use state::Life;
 use state::Set;
+use state::Timer;
 use state::Waiting;
 use timers::Call;
 
@@ -82,11 +80,21 @@ fn all_calls(what: &[u8], s: Set) {
 
 // A set with one live timer of this word and deadline 5, which neither waits nor has an entry.
 fn with_word(word: u32) -> Set {
-    open(
-        heap::fresh(),
-        timer(Life::Live { word, due: 5 }, Waiting::No, Held::Nothing),
-        First::Nothing,
-    )
+    let mut s = state::fresh();
+    s.timers[0] = Timer {
+        life: Life::Live { word, due: 5 },
+        waiting: Waiting::No,
+        held: Held::Nothing,
+        uses: 0,
+    };
+    s
+}
+
+// The set closed.
+fn closed(s: Set) -> Set {
+    let mut g = s;
+    g.closed = true;
+    g
 }
 
 // Handles that are dead: past the places, of a free place, and with another use number.
@@ -145,7 +153,7 @@ pub fn run() {
         b"row 45, clause 41, the same with an invalid mark: ",
         with_word(3),
     );
-    all_calls(b"the same, closed: ", crate::sets::closed(with_word(3)));
+    all_calls(b"the same, closed: ", closed(with_word(3)));
     dead_handles();
     ticks();
 }
