@@ -1,4 +1,4 @@
--- What a sound heap is, clause by clause. The heap test says yes exactly of these (proofs/Test.antt). It speaks of the
+-- What a sound heap is, clause by clause. The heap test says yes exactly of these (proofs/Testing/Test.antt). It speaks of the
 -- positions below `len` and of the slots below `made` only.
 -- Assumes nothing.
 use mathlib.Core.Path.{_≡_}

@@ -1,5 +1,5 @@
--- What an advance and a close leave: the counts and the list of an advance (proofs/AdvancedSound.antt, proofs/AdvancedList.antt), and
--- a set that is closed for good (proofs/ClosedSound.antt).
+-- What an advance and a close leave: the counts and the list of an advance (proofs/Soundness/AdvancedSound.antt, proofs/Reporting/AdvancedList.antt), and
+-- a set that is closed for good (proofs/Soundness/ClosedSound.antt).
 -- Assumes nothing.
 use mathlib.Core.Path.{_≡_}
 use mathlib.Core.Bool.{true}

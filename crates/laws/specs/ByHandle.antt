@@ -1,4 +1,4 @@
--- What a call changes of what a handle names (proofs/ByHandleSteps.antt).
+-- What a call changes of what a handle names (proofs/Handles/ByHandleSteps.antt).
 -- Assumes nothing.
 use mathlib.Core.Path.{_≡_}
 use mathlib.Core.Logic.{_⊎_}

@@ -1,4 +1,4 @@
--- The heap's entry for a place, and what it must be for the timer there to go off (proofs/EntryOf*.antt).
+-- The heap's entry for a place, and what it must be for the timer there to go off (proofs/Entries/EntryOf*.antt).
 -- Assumes nothing.
 use mathlib.Core.Path.{_≡_}
 use mathlib.Core.Bool.{Bool}

@@ -1,6 +1,6 @@
 -- A handle that was given out, and one that is over. A handle was given out where its place's use number is above its own, or is its
 -- own and the place is not free; it is past where the number is above its own, or is its own and the place is cancelled or retired.
--- What is so stays so (proofs/Ever.antt).
+-- What is so stays so (proofs/Handles/Ever.antt).
 -- Assumes nothing.
 use mathlib.Core.Path.{_≡_}
 use mathlib.Core.Logic.{_⊎_}

@@ -1,4 +1,4 @@
--- What a call reports, and whom a report stands for (proofs/Reports.antt).
+-- What a call reports, and whom a report stands for (proofs/Reporting/Reports.antt).
 -- Assumes nothing.
 use mathlib.Core.Path.{_≡_}
 use mathlib.Core.Option.{some}

@@ -1,5 +1,5 @@
 -- What a place tells of who has had it: how many handles of it were given out, whether its timer is cancelled, and that its use number
--- fits and is used up where it is retired (proofs/Rooms.antt).
+-- fits and is used up where it is retired (proofs/PlaceByPlace/Rooms.antt).
 -- Assumes nothing.
 use mathlib.Core.Path.{_≡_}
 use mathlib.Core.Bool.{Bool, true, false, cond}

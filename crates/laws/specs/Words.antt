@@ -1,5 +1,5 @@
 -- What the code's types say of a set: there are as many places as the capacity, and words have 32 bits. Every call keeps it
--- (proofs/CallsSound.antt).
+-- (proofs/Soundness/CallsSound.antt).
 -- Assumes nothing.
 use mathlib.Core.Path.{_≡_}
 use Prim.Native.Nat.{ℕ, _<_, _^_}

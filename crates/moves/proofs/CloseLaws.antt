@@ -9,7 +9,7 @@ use Rattle.heap.specs.declared.Place.{Place}
 use Rattle.heap.specs.Rules.{entryAt}
 use Rattle.heap.specs.Sound.{Sound}
 use Rattle.heap.specs.Calls.{popSound}
-use Rattle.heap.proofs.SoundKept.{pop-sound}
+use Rattle.heap.proofs.Soundness.SoundKept.{pop-sound}
 use Rattle.state.specs.declared.Waiting.the-variants.{No}
 use Rattle.state.specs.declared.Held.the-variants as Held
 use Rattle.state.specs.declared.First.{First}

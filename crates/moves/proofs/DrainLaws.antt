@@ -12,7 +12,7 @@ use Rattle.heap.specs.declared.Heap.{Heap}
 use Rattle.heap.specs.declared.Place.{Place}
 use Rattle.heap.specs.Calls.{pushSound}
 use Rattle.heap.specs.Sound.{Sound}
-use Rattle.heap.proofs.SoundKept.{push-sound, remove-sound}
+use Rattle.heap.proofs.Soundness.SoundKept.{push-sound, remove-sound}
 use Rattle.word.specs.Rules.{generationOf}
 use Rattle.state.specs.declared.Life.{Life}
 use Rattle.state.specs.declared.Life.the-variants.{Free, Live, Cancelled, Retired}

@@ -11,7 +11,7 @@ use Rattle.heap.specs.declared.Entry.{Entry}
 use Rattle.heap.specs.Rules.{entryAt}
 use Rattle.heap.specs.Sound.{Sound}
 use Rattle.heap.specs.Calls.{popSound}
-use Rattle.heap.proofs.SoundKept.{pop-sound}
+use Rattle.heap.proofs.Soundness.SoundKept.{pop-sound}
 use Rattle.state.specs.declared.Timer.{Timer}
 use Rattle.state.specs.declared.Set.{Set}
 use Rattle.state.specs.State.{noTimer, timerAt}

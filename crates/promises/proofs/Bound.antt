@@ -36,11 +36,11 @@ use Rattle.timers.specs.declared.Call.the-variants as C
 use Rattle.timers.specs.Values.{Value, nothing, handle}
 use Rattle.timers.specs.Calls.{Lent, gives, with-list, guarded, liveAt, addOf, resetOf, drainOf, advanceOf, step}
 use Rattle.laws.specs.Words.{Fit}
-use Rattle.laws.proofs.StepSound.{after-fit, never-unsound}
+use Rattle.laws.proofs.Soundness.StepSound.{after-fit, never-unsound}
 use Rattle.promises.specs.Turns.{every, Line, Ledger, blank, begun, moved, seen, note, owed, Exact, Run, next, from, run, Bounded, Accepted}
 use Rattle.promises.specs.Engine.{handed, ours}
 use Rattle.promises.specs.Bound.{words, its, resetting, reporting}
-use Rattle.promises.proofs.Runs.{run-good}
+use Rattle.promises.proofs.Ledger.Runs.{run-good}
 use Rattle.promises.proofs.Engine.{moment}
 use Rattle.promises.proofs.Meeting.{advance-accepted}
 

@@ -10,9 +10,9 @@ use Rattle.state.specs.declared.Set.{Set}
 use Rattle.state.specs.Faults.{soundOf}
 use Rattle.state.proofs.Test.{sound-told, sound-tells}
 use Rattle.promises.specs.Clauses.{broken}
-use Rattle.promises.proofs.ClauseKept.{broken-kept, kept-broken}
-use Rattle.promises.proofs.ClausesEnough.{kept-sound}
-use Rattle.promises.proofs.ClausesNeeded.{sound-kept}
+use Rattle.promises.proofs.ByClause.ClauseKept.{broken-kept, kept-broken}
+use Rattle.promises.proofs.ByClause.ClausesEnough.{kept-sound}
+use Rattle.promises.proofs.ByClause.ClausesNeeded.{sound-kept}
 
 -- the test says yes of a set exactly where it breaks no clause; how long the arrays are the code's types say
 pub clauses-sound : (s : Set) → length (s .timers) ≡ cap → length (s .heap .entries) ≡ cap → length (s .heap .slots) ≡ cap

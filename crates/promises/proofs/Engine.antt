@@ -7,10 +7,10 @@ use Rattle.timers.specs.declared.Call.{Call}
 use Rattle.timers.specs.Calls.{wakeBy}
 use Rattle.promises.specs.Turns.{next, from, run, Bounded, Moment, Meets, every}
 use Rattle.promises.specs.Engine.{ours}
-use Rattle.promises.proofs.TracksSteps.{Low}
-use Rattle.promises.proofs.Runs.{bounded-low, run-good}
-use Rattle.promises.proofs.Answering.{wake-answered, answered, wake-in-time}
-use Rattle.promises.proofs.Moments.{list-kept, turn-exact, advance-exact, settled-wake}
+use Rattle.promises.proofs.Ledger.TracksSteps.{Low}
+use Rattle.promises.proofs.Ledger.Runs.{bounded-low, run-good}
+use Rattle.promises.proofs.OneMoment.Answering.{wake-answered, answered, wake-in-time}
+use Rattle.promises.proofs.OneMoment.Moments.{list-kept, turn-exact, advance-exact, settled-wake}
 
 -- a moment, whatever calls led to it
 pub moment : (cs : List (Call × List ℕ)) → Moment ours every (run ours cs) (Bounded ours (run ours []) cs)

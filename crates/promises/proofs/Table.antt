@@ -14,11 +14,11 @@ use Rattle.timers.specs.declared.Call.{Call}
 use Rattle.timers.specs.declared.Call.the-variants as C
 use Rattle.timers.specs.Calls.{step, addOf, resetOf, cancelOf, drainOf, advanceOf, turnOf, nextWakeOf, pollOf, closeOf, tickAt, restartAt}
 use Rattle.promises.specs.Table.{Asked, heap-push, heap-remove, heap-pop, heap-peek, on-set, clock-reading, clock-pause, clock-resume, clock-advance, a-record, Gives, answerTo, refusalIn, rowsOn, rowsOf, heldIn, rowb, inTurn, firstIn, firstRow, Decides}
-use Rattle.promises.proofs.Rows.{unsound-row, closed-row, dead-row, full-row, short-row, ticked-row, restarted-row}
-use Rattle.promises.proofs.RowsHeap.{inconsistent-row, push-row, remove-row, pop-row, peek-row}
-use Rattle.promises.proofs.RowsClock.{reading-row, pause-row, advance-row}
-use Rattle.promises.proofs.RowsRecord.{record-row}
-use Rattle.promises.proofs.Leads.{found-leads, leads-found, none-passes, passes-none, within, held-within}
+use Rattle.promises.proofs.Refusing.Rows.{unsound-row, closed-row, dead-row, full-row, short-row, ticked-row, restarted-row}
+use Rattle.promises.proofs.Refusing.RowsHeap.{inconsistent-row, push-row, remove-row, pop-row, peek-row}
+use Rattle.promises.proofs.Refusing.RowsClock.{reading-row, pause-row, advance-row}
+use Rattle.promises.proofs.Refusing.RowsRecord.{record-row}
+use Rattle.promises.proofs.Refusing.Leads.{found-leads, leads-found, none-passes, passes-none, within, held-within}
 
 -- THE TABLE, both ways at once: the number with which what is asked is refused, or none, is that of the first row that holds, or none
 pub table : (q : Asked) → refusalIn (answerTo q) ≡ firstRow q

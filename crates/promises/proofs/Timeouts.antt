@@ -18,16 +18,16 @@ use Rattle.timers.specs.declared.Call.the-variants as C
 use Rattle.timers.specs.Values.{Value, nothing, handle, counts, wake, polled, time, handleIn}
 use Rattle.timers.specs.Calls.{Timing, addOf, step}
 use Rattle.laws.specs.EntryOf.{entryOf, waiting}
-use Rattle.laws.proofs.ByHandleCalls.{add-lives}
+use Rattle.laws.proofs.Handles.ByHandleCalls.{add-lives}
 use Rattle.promises.specs.Turns.{owed, seen, Run, next, from, run, Accepted}
 use Rattle.promises.specs.Engine.{ours}
 use Rattle.promises.specs.Timeouts.{LeftAlone, GoesOff}
-use Rattle.promises.proofs.Tracks.{Stands}
-use Rattle.promises.proofs.TracksSteps.{Low}
-use Rattle.promises.proofs.Runs.{Good, next-good, run-good}
+use Rattle.promises.proofs.Ledger.Tracks.{Stands}
+use Rattle.promises.proofs.Ledger.TracksSteps.{Low}
+use Rattle.promises.proofs.Ledger.Runs.{Good, next-good, run-good}
 use Rattle.promises.proofs.Engine.{moment}
 use Rattle.promises.proofs.Meeting.{from-append}
-use Rattle.promises.proofs.Owing.{Owes, same-owes, note-owes, note-closed}
+use Rattle.promises.proofs.Ledger.Owing.{Owes, same-owes, note-owes, note-closed}
 
 -- an answer that has a handle is that of an add
 handle-answer : (a : Answer Value) (h : Handle) → handleIn a ≡ some h → a ≡ accepted (handle h)

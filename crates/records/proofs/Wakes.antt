@@ -12,7 +12,7 @@ use Rattle.state.proofs.Test.{sound-tells}
 use Rattle.timers.specs.declared.Call.{Call}
 use Rattle.timers.specs.Calls.{counts, wakeBy, guarded, nextWakeOf, step}
 use Rattle.laws.specs.Words.{Fit}
-use Rattle.laws.proofs.StepSound.{step-sound}
+use Rattle.laws.proofs.Soundness.StepSound.{step-sound}
 use Rattle.records.specs.Answers.{wakeIn, wakeAfter}
 
 -- the next wake of a sound set is its head's deadline, or none, and no refusal

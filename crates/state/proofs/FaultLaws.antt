@@ -14,7 +14,7 @@ use Rattle.heap.specs.declared.fault.Fault as HF
 use Rattle.heap.specs.declared.fault.Fault.the-variants as H
 use Rattle.heap.specs.Faults as Heaps
 use Rattle.heap.specs.Sound as HeapSound
-use Rattle.heap.proofs.Test.{consistent-sound}
+use Rattle.heap.proofs.Testing.Test.{consistent-sound}
 use Rattle.state.specs.declared.Set.{Set}
 use Rattle.state.specs.declared.fault.Fault.{Fault}
 use Rattle.state.specs.declared.fault.Fault.the-variants as F

@@ -9,7 +9,7 @@ use borrow.Author.Tests.{lt-ltb}
 use Rattle.theory.proofs.Counting.{count-none}
 use Rattle.theory.proofs.ChainTest.{none-ok}
 use Rattle.heap.specs.Capacity.{cap}
-use Rattle.heap.proofs.FreshSound as Heap
+use Rattle.heap.proofs.Soundness.FreshSound as Heap
 use Rattle.state.specs.declared.Life.the-variants.{Free, Live, Cancelled}
 use Rattle.state.specs.declared.Timer.{Timer}
 use Rattle.state.specs.State.{noTimer, timerAt, isWaiting, freshOf}

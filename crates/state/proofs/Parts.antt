@@ -18,7 +18,7 @@ use Rattle.heap.specs.declared.fault.Fault as HF
 use Rattle.heap.specs.declared.fault.Fault.the-variants as H
 use Rattle.heap.specs.Faults as Heaps
 use Rattle.heap.specs.Sound as Heap
-use Rattle.heap.proofs.Test as HeapTest
+use Rattle.heap.proofs.Testing.Test as HeapTest
 use Rattle.state.specs.declared.Set.{Set}
 use Rattle.state.specs.declared.fault.Fault.{Fault}
 use Rattle.state.specs.declared.fault.Fault.the-variants.{No, Count, Position, Order, FreeChain, List, Place}

@@ -14,7 +14,7 @@ use Rattle.theory.proofs.Tests.{ref-map, ref-true, true-ref, true-false, is-fal
 use Rattle.theory.proofs.Counting.{count-zero}
 use Rattle.theory.proofs.ChainTest.{ok-head, ok-none}
 use Rattle.heap.specs.Capacity.{cap}
-use Rattle.heap.proofs.SoundFacts.{full-back}
+use Rattle.heap.proofs.Soundness.SoundFacts.{full-back}
 use Rattle.state.specs.declared.Life.{Life}
 use Rattle.state.specs.declared.Life.the-variants.{Free, Live, Cancelled, Retired}
 use Rattle.state.specs.declared.Waiting.the-variants as Waiting

@@ -3,7 +3,7 @@
 use mathlib.Core.Path.{sym, ap, _∙_}
 use borrow.Author.Needs.{needs}
 use Rattle.heap.specs.Faults.{isNo, consistentOf}
-use Rattle.heap.proofs.FaultLaws.{is-fault}
+use Rattle.heap.proofs.Testing.FaultLaws.{is-fault}
 use Rattle.heap.proofs.consistent.Statement.{statement}
 use Rattle.heap.proofs.consistent.Tie as tie
 

@@ -8,7 +8,7 @@ use native.Mathlib.Omega.{arith}
 use borrow.Author.Tests.{eq-eqb, ne-eqb}
 use Rattle.heap.specs.declared.Heap.{Heap}
 use Rattle.heap.specs.Rules.{entryAt, before, filledOf}
-use Rattle.heap.proofs.Laws.{len-put, last-in, slots-in-filled}
+use Rattle.heap.proofs.Walking.Laws.{len-put, last-in, slots-in-filled}
 use borrow.Author.Needs.{needs}
 use Rattle.heap.proofs.filled.Statement.{statement}
 use Rattle.heap.proofs.filled.Tie as tie

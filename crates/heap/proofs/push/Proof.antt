@@ -5,8 +5,8 @@ use borrow.Author.Needs.{needs}
 use lib.ListN.{length}
 use Rattle.theory.proofs.Stores.{unmapped}
 use Rattle.heap.specs.Capacity.{cap}
-use Rattle.heap.proofs.Guarding.{passed}
-use Rattle.heap.proofs.Test.{consistent-sound}
+use Rattle.heap.proofs.Soundness.Guarding.{passed}
+use Rattle.heap.proofs.Testing.Test.{consistent-sound}
 use Rattle.heap.proofs.push.Statement.{statement}
 use Rattle.heap.proofs.push.Tie as tie
 

@@ -8,8 +8,8 @@ use borrow.Author.Needs.{needs}
 use Rattle.heap.specs.declared.Heap.{Heap}
 use Rattle.heap.specs.Rules.{pushedOf}
 use Rattle.heap.specs.Calls.{pushSound}
-use Rattle.heap.proofs.Laws.{len-taken, len-added, slots-in-taken, slots-in-added}
-use Rattle.heap.proofs.SoundFacts.{slots-in, free-in}
+use Rattle.heap.proofs.Walking.Laws.{len-taken, len-added, slots-in-taken, slots-in-added}
+use Rattle.heap.proofs.Soundness.SoundFacts.{slots-in, free-in}
 use Rattle.heap.proofs.push_sound.Statement.{statement}
 use Rattle.heap.proofs.push_sound.Tie as tie
 

@@ -7,8 +7,8 @@ use borrow.Author.Tests.{lt-ltb, le-ltb}
 use Rattle.heap.specs.declared.Heap.{Heap}
 use Rattle.heap.specs.Rules.{removedOf}
 use Rattle.heap.specs.Calls.{removeSound}
-use Rattle.heap.proofs.Laws.{len-vacated, slots-in-vacated}
-use Rattle.heap.proofs.SoundFacts.{slots-in, full-back}
+use Rattle.heap.proofs.Walking.Laws.{len-vacated, slots-in-vacated}
+use Rattle.heap.proofs.Soundness.SoundFacts.{slots-in, full-back}
 use borrow.Author.Needs.{needs}
 use Rattle.heap.proofs.remove_sound.Statement.{statement}
 use Rattle.heap.proofs.remove_sound.Tie as tie

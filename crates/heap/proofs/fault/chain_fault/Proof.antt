@@ -7,7 +7,7 @@ use native.Mathlib.Omega.{arith}
 use borrow.Author.Needs.{needs}
 use Rattle.theory.proofs.Counting.{count-le}
 use Rattle.heap.specs.Faults.{fullAt, chainFault}
-use Rattle.heap.proofs.ChainLaws.{chainFrom, chain-starts, chain-past, chain-full, chain-goes, chain-ends, chain-long}
+use Rattle.heap.proofs.Testing.ChainLaws.{chainFrom, chain-starts, chain-past, chain-full, chain-goes, chain-ends, chain-long}
 use Rattle.heap.proofs.fault.chain_fault.Statement.{statement}
 use Rattle.heap.proofs.fault.chain_fault.Tie as tie
 

@@ -4,8 +4,8 @@
 use mathlib.Core.Path.{_∙_}
 use borrow.Author.Needs.{needs}
 use Rattle.heap.specs.Faults.{faultOf}
-use Rattle.heap.proofs.FaultLaws.{is-fault, stops, goes-on}
-use Rattle.heap.proofs.Test.{counts}
+use Rattle.heap.proofs.Testing.FaultLaws.{is-fault, stops, goes-on}
+use Rattle.heap.proofs.Testing.Test.{counts}
 use Rattle.heap.proofs.fault.first_fault.Statement.{statement}
 use Rattle.heap.proofs.fault.first_fault.Tie as tie
 

@@ -8,8 +8,8 @@ use borrow.Author.Needs.{needs}
 use Rattle.theory.specs.Counting.{count}
 use Rattle.theory.proofs.Counting.{count-yes, count-no}
 use Rattle.heap.specs.Faults.{fullAt}
-use Rattle.heap.proofs.Slab.{full-at}
-use Rattle.heap.proofs.FaultLaws.{full-no}
+use Rattle.heap.proofs.Slots.Slab.{full-at}
+use Rattle.heap.proofs.Testing.FaultLaws.{full-no}
 use Rattle.heap.proofs.fault.full_count.Statement.{statement}
 use Rattle.heap.proofs.fault.full_count.Tie as tie
 

@@ -5,7 +5,7 @@ use Prim.Native.Nat.{_≤_, _-_}
 use native.Mathlib.Omega.{arith}
 use borrow.Author.Needs.{needs}
 use Rattle.heap.specs.Faults.{orderOk, disordered, orderFault}
-use Rattle.heap.proofs.FaultLaws.{scan, scan-goes, scan-here, scan-done, order-not}
+use Rattle.heap.proofs.Testing.FaultLaws.{scan, scan-goes, scan-here, scan-done, order-not}
 use Rattle.heap.proofs.fault.order_fault.Statement.{statement}
 use Rattle.heap.proofs.fault.order_fault.Tie as tie
 

@@ -6,7 +6,7 @@ use native.Mathlib.Nat.{sub-zero}
 use native.Mathlib.Omega.{arith}
 use borrow.Author.Needs.{needs}
 use Rattle.heap.specs.Faults.{positionOk, misplaced, positionFault}
-use Rattle.heap.proofs.FaultLaws.{scan, scan-goes, scan-here, scan-done, position-past, position-empty, position-other, position-yes}
+use Rattle.heap.proofs.Testing.FaultLaws.{scan, scan-goes, scan-here, scan-done, position-past, position-empty, position-other, position-yes}
 use Rattle.heap.proofs.fault.position_fault.Statement.{statement}
 use Rattle.heap.proofs.fault.position_fault.Tie as tie
 

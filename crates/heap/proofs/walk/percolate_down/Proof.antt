@@ -14,7 +14,7 @@ use Rattle.heap.specs.declared.Heap.{Heap}
 use Rattle.heap.specs.Rules.{slotAt, putAt, swapAt, moved, childOf, downFrom}
 use Rattle.heap.specs.Sound.{SlotsIn}
 use borrow.Author.Needs.{needs}
-use Rattle.heap.proofs.Laws.{slots-in-swap, child-picks, down-stop, down-step}
+use Rattle.heap.proofs.Walking.Laws.{slots-in-swap, child-picks, down-stop, down-step}
 use Rattle.heap.proofs.walk.percolate_down.Statement.{statement}
 use Rattle.heap.proofs.walk.percolate_down.Tie as tie
 

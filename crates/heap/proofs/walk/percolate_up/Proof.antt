@@ -12,7 +12,7 @@ use Rattle.heap.specs.declared.Heap.{Heap}
 use Rattle.heap.specs.Rules.{slotAt, putAt, swapAt, risesAt, upFrom}
 use Rattle.heap.specs.Sound.{SlotsIn}
 use borrow.Author.Needs.{needs}
-use Rattle.heap.proofs.Laws.{slots-in-swap, rises-is, top-stays, up-stop, up-step}
+use Rattle.heap.proofs.Walking.Laws.{slots-in-swap, rises-is, top-stays, up-stop, up-step}
 use Rattle.heap.proofs.walk.percolate_up.Statement.{statement}
 use Rattle.heap.proofs.walk.percolate_up.Tie as tie
 

@@ -4,7 +4,7 @@
 use mathlib.Core.Path.{_≡_, sym, ap, _∙_}
 use borrow.Author.Needs.{needs}
 use Rattle.theory.proofs.Stores.{unmapped}
-use Rattle.heap.proofs.FaultLaws.{is-fault}
+use Rattle.heap.proofs.Testing.FaultLaws.{is-fault}
 use Rattle.state.specs.Faults.{scanned, atPlace, faultBy, faultOf}
 use Rattle.state.proofs.FaultLaws.{heap-first, heap-sound, list-next, place-last}
 use Rattle.state.proofs.fault.first_fault.Statement.{statement}

@@ -10,7 +10,7 @@ use native.Mathlib.Omega.{arith}
 use borrow.Author.Needs.{needs}
 use borrow.Author.Tests.{not-true, not-false}
 use Rattle.heap.specs.Capacity.{cap}
-use Rattle.heap.proofs.SoundFacts.{full-back}
+use Rattle.heap.proofs.Soundness.SoundFacts.{full-back}
 use Rattle.state.specs.State.{timerAt}
 use Rattle.state.specs.Faults.{heldOk, placeOk, firstPlace}
 use Rattle.state.proofs.ScanLaws.{held-none, held-past, held-empty, held-other, held-own, placesFrom, place-parts, place-held, places-go, places-here, places-done}

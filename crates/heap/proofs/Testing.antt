@@ -1,0 +1,4 @@
+-- The test of a heap, fault by fault and turn by turn; it says yes exactly of sound heaps.
+pub mod FaultLaws
+pub mod ChainLaws
+pub mod Test
