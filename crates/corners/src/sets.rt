@@ -77,10 +77,14 @@ pub fn one(t: Timer) -> Set {
 
 // The set with this place at the head of the list.
 pub fn from(s: Set, p: u16) -> Set {
-    let f = First::At(Place(p));
-    let mut g = s;
-    g.first = f;
-    g
+    let h = s.heap;
+    let ts = s.timers;
+    Set {
+        heap: h,
+        timers: ts,
+        first: First::At(Place(p)),
+        closed: s.closed,
+    }
 }
 
 // The set closed.

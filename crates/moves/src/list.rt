@@ -22,38 +22,32 @@ pub fn touched(s: Set, place: Place, life: Life) -> Set
     requires { ⌜ place .0 < cap ⌝ }
     ensures { λ r. ⌜ Touches s place life r ⌝ }
 {
-    let h = s.heap;
     let f = s.first;
-    let mut ts = s.timers;
     let p = place.0 as usize;
-    let t = ts[p];
+    let t = s.timers[p];
     let w = t.waiting;
     let d = t.held;
+    let mut g = s;
     if state::fault::waits(w) {
-        ts[p] = Timer {
+        g.timers[p] = Timer {
             life,
             waiting: w,
             held: d,
             uses: t.uses,
         };
-        return Set {
-            heap: h,
-            timers: ts,
-            first: f,
-            closed: s.closed,
-        };
+        return g;
     }
-    ts[p] = Timer {
+    g.timers[p] = Timer {
         life,
         waiting: link_to(f),
         held: d,
         uses: t.uses,
     };
     Set {
-        heap: h,
-        timers: ts,
+        heap: g.heap,
+        timers: g.timers,
         first: First::At(place),
-        closed: s.closed,
+        closed: g.closed,
     }
 }
 

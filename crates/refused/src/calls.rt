@@ -29,7 +29,7 @@ fn zero() -> Handle {
     }
 }
 
-// The calls that a reset or an advance is not among.
+// The calls that take neither a handle nor a reading.
 fn plain_calls(what: &[u8], s: Set) {
     call(what, b"add ", s, Call::Add { due: 7 });
     call(what, b"drain ", s, Call::Drain);
@@ -37,7 +37,7 @@ fn plain_calls(what: &[u8], s: Set) {
     call(what, b"close ", s, Call::Close);
 }
 
-// An advance and a turn.
+// The calls that take a reading and a report list.
 fn readings(what: &[u8], s: Set) {
     call(what, b"advance ", s, Call::Advance { reading: 5 });
     call(what, b"turn ", s, Call::Turn { reading: 5 });

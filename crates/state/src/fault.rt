@@ -55,7 +55,8 @@ pub fn first_fault(s: Set) -> Fault
     let heap::fault::Fault::No = f else {
         return of_heap(f);
     };
-    if let Walk::At(k) = list_scan(s) {
+    let n = waiting_count(s);
+    if let Walk::At(k) = list_scan(s, n) {
         return Fault::List(k);
     }
     match lower(place_scan(s), entry_scan(s)) {
@@ -116,11 +117,13 @@ fn waiting_count(s: Set) -> usize
     n
 }
 
-// The step along the waiting list at which it meets a timer that does not wait, ends too soon, or goes on too long.
-fn list_scan(s: Set) -> Walk
+// The step along the waiting list at which it meets a timer that does not wait, ends too soon, or goes on too long, where n wait.
+// The caller counts them, so that the copies of the set for the count and for the walk do not lie on the stack at once.
+fn list_scan(s: Set, n: usize) -> Walk
+    requires { ⌜ n ≡ count (waitsAt s) cap ⌝ }
     ensures { λ r. ⌜ walked r ≡ listScan s ⌝ }
 {
-    let mut left = waiting_count(s);
+    let mut left = n;
     let mut step: usize = 0;
     let mut at = s.first;
     while 0 < left {

@@ -48,7 +48,7 @@ abbrev pub entering : Set → Answer Timing → (Timing → Outcome Set Value) �
 entering s (refused n) f = kept s n
 entering s (accepted t) f = f t
 
--- and that is what its rule says
+-- the rule of a call on a handle goes by what the door says: barred where the set is closed, or never for a call that one answers too
 pub at-door : (barred : Bool) (s : Set) (h : Handle) (f : Timing → Outcome Set Value) {r k : Door} → r ≡ k → saidDoor r ≡ doorOf barred s h
     → guarded s s (cond barred (refusing s Closed) (alive s (liveAt s h) f)) ≡ entering s (saidDoor k) f
 unfolding doorOf guarded

@@ -142,7 +142,7 @@ module _ (s : Set) (m : length (s .heap .entries) ≡ cap) (k : length (s .heap 
       (λ t e. let r = empty-link q e in t (r .0) (sym (ap (there none nextFree) (slot-in s m k a b q l)) ∙ r .1))
       (λ t n e. t (link-some q n (ap (there none nextFree) (slot-in s m k a b q l) ∙ e) .0))
 
-  -- 16
+  -- 16: the free chain meets each empty slot once and ends at the number of slots
   pub ref-chained : Ref (chainOkb (emptyAt (s .heap)) (nextAt (s .heap)) (s .heap .made) (unless (s .heap .made) (s .heap .free .0)) ≡ true) (chained s)
   ref-chained =
       ref-map (ref-and (ref-slab s m k a b _ _ ref-once) (ref-self (endsIn (s .heap .made) met)))

@@ -24,7 +24,7 @@ use Rattle.heap.specs.Rules.{noEntry, noSlot, entryAt, stateAt, slotAt, items, 
 use Rattle.heap.specs.Faults.{isFull, fullAt}
 use Rattle.state.specs.declared.Set.{Set}
 use Rattle.promises.specs.Clauses.{each, element, there, slab, positionIn, fulls, counted, slotIn, positioned, ordered}
-use Rattle.promises.proofs.ByClause.ClauseLists.{ref-all, element-in, element-out, in-element, ref-some, ref-any, count-front}
+use Rattle.promises.proofs.ByClause.ClauseLists.{ref-all, some-same, element-in, element-out, in-element, ref-some, ref-any, count-front}
 
 -- a slot is full with this position
 ref-names : (x : SlotState) (i : ℕ) → Ref (x ≡ Full (record { 0 = i })) (there false (λ j. eqb j i) (positionIn x))
@@ -79,9 +79,6 @@ module _ (s : Set) (m : length (s .heap .entries) ≡ cap) (k : length (s .heap 
   pub in-slot : (q : ℕ) (x : SlotState) → slotIn (s .heap) q ≡ some x → (q < s .heap .made) × (stateAt (s .heap) q ≡ x)
   in-slot q x e =
       by-ref (ref-lt q (s .heap .made)) (λ l. (l, some-same (sym (slot-in q l) ∙ e))) (λ n. absurd (none-some (slot-out q (omega arith)) e))
-    where
-      some-same : {A : Type 0} {a b : A} → some a ≡ some b → a ≡ b
-      some-same e = cc
 
   -- every entry passes, and every slot that was made
   pub ref-items : (P : ℕ → Type 0) (f : ℕ → Entry → Bool) → ((i : ℕ) → i < s .heap .len → Ref (P i) (f i (entryAt (s .heap) i)))
@@ -97,14 +94,14 @@ module _ (s : Set) (m : length (s .heap .entries) ≡ cap) (k : length (s .heap 
       ref-all noSlot P f (slab (s .heap)) (s .heap .made) slab-long
       (λ q l. subst (λ (x : SlabSlot). Ref (P q) (f q x)) (sym (getD-take (s .heap .made) (s .heap .slots) q noSlot l)) (r q l))
 
-  -- 13
+  -- 13: there are as many entries as full slots
   pub ref-counted : Ref (count (fullAt (s .heap)) (s .heap .made) ≡ s .heap .len) (counted s)
   unfolding fullAt
   ref-counted =
       let e = fulls-count (s .heap .slots) (s .heap .made) (omega arith) in
       ref-map (ref-eq (s .heap .len) (fulls (slab (s .heap)))) (λ q. sym (q ∙ e)) (λ q. sym (e ∙ q))
 
-  -- 14
+  -- 14: each entry's slot was made and is full with the entry's position
   pub ref-positioned : Ref
       ((i : ℕ) → i < s .heap .len
       → (slotAt (s .heap) i < s .heap .made) × (stateAt (s .heap) (slotAt (s .heap) i) ≡ Full (record { 0 = i })))
@@ -118,7 +115,7 @@ module _ (s : Set) (m : length (s .heap .entries) ≡ cap) (k : length (s .heap 
       (λ t. let r = in-slot (slotAt (s .heap) i) (t .0) (t .1) in (r .0, r .1 ∙ t .2))
       (λ t. (stateAt (s .heap) (slotAt (s .heap) i), slot-in (slotAt (s .heap) i) (t .0), t .1)))
 
-  -- 15
+  -- 15: no entry but the head, which has no parent, is smaller than its parent
   pub ref-ordered : Ref
       ((i : ℕ) → i < s .heap .len → 0 < i → before (entryAt (s .heap) i) (entryAt (s .heap) (parent i)) ≡ false) (ordered s)
   ref-ordered =

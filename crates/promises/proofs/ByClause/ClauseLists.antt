@@ -50,6 +50,10 @@ ref-all d P f xs n e r =
     from : (i : ℕ) → i ≡ 0 + i
     from i = omega arith
 
+-- what is there is one thing
+pub some-same : {A : Type 0} {a b : A} → some a ≡ some b → a ≡ b
+some-same e = cc
+
 -- an element is there exactly below the length
 pub element-in : {A : Type 0} (d : A) (xs : List A) (i : ℕ) → i < length xs → element xs i ≡ some (getD xs i d)
 element-in d [] i l = absurd (omega arith)
@@ -65,9 +69,6 @@ pub in-element : {A : Type 0} (d : A) (xs : List A) (i : ℕ) (x : A) → elemen
 in-element d xs i x e =
     by-ref (ref-lt i (length xs)) (λ l. (l, some-same (sym (element-in d xs i l) ∙ e)))
     (λ n. absurd (none-some (element-out xs i (omega arith)) e))
-  where
-    some-same : {A : Type 0} {a b : A} → some a ≡ some b → a ≡ b
-    some-same e = cc
 
 -- what a test of something that may be there tells: it is there and has it, or it has it where it is there
 pub ref-some : {A : Type 0} (P : A → Type 0) (f : A → Bool) (o : Option A) → ((x : A) → Ref (P x) (f x))

@@ -60,7 +60,7 @@ module _ (s : Set) (n : length (s .timers) ≡ cap) (m : length (s .heap .entrie
           let t = in-item s m k a b (i .0) e h in
           record { made = r .0; position = i; full = r .1; in-use = t .0; entry = t .1 }
 
-  -- 21
+  -- 21: a timer that names a slot finds an entry there that holds its place
   pub ref-own-slots : Ref
       ((p : ℕ) → p < cap → (q : ℕ) → slotOf (timerAt s p .held) ≡ some q → (e : Entry) × (entryIn (s .heap) q ≡ some e) × (e .place .0 ≡ p))
       (ownSlots s)
@@ -70,7 +70,7 @@ module _ (s : Set) (n : length (s .timers) ≡ cap) (m : length (s .heap .entrie
       ref-any _ (λ q. there false (λ e. eqb (e .place .0) p) (entryIn (s .heap) q)) (slotOf (timerAt s p .held))
       (λ q. ref-some (λ e. e .place .0 ≡ p) (λ e. eqb (e .place .0) p) (entryIn (s .heap) q) (λ e. ref-eq (e .place .0) p)))
 
-  -- 22
+  -- 22: where an entry in a slot holds a timer's place, the timer names that slot
   pub ref-own-entries : Ref
       ((q : ℕ) → q < s .heap .made → (e : Entry) → entryIn (s .heap) q ≡ some e → (t : Timer) → element (s .timers) (e .place .0) ≡ some t
       → (r : ℕ) × (slotOf (t .held) ≡ some r) × (q ≡ r))
@@ -83,14 +83,14 @@ module _ (s : Set) (n : length (s .timers) ≡ cap) (m : length (s .heap .entrie
       ref-any _ (λ t. there false (eqb q) (slotOf (t .held))) (element (s .timers) (e .place .0))
       (λ t. ref-some (λ r. q ≡ r) (eqb q) (slotOf (t .held)) (λ r. ref-eq q r))))
 
-  -- 44
+  -- 44: the heap of a closed set is empty
   pub ref-closed-heap : Ref (s .closed ≡ true → s .heap .len ≡ 0) (closedHeap s)
   ref-closed-heap =
       ref-shut (s .closed)
       (ref-map (ref-empty (items (s .heap))) (λ e. sym (items-long s m k a b) ∙ ap length e)
       (λ e. ap (λ (j : ℕ). take j (s .heap .entries)) e))
 
-  -- 51, 52
+  -- 51, 52: no entry is held for a place of this kind
   pub ref-none-held : (kind : Life → Bool)
       → Ref
       ((i : ℕ) → i < s .heap .len → (t : Timer) → element (s .timers) (entryAt (s .heap) i .place .0) ≡ some t → kind (t .life) ≡ false)
@@ -101,11 +101,11 @@ module _ (s : Set) (n : length (s .timers) ≡ cap) (m : length (s .heap .entrie
       ref-any (λ t. kind (t .life) ≡ false) (λ t. not (kind (t .life))) (element (s .timers) (entryAt (s .heap) i .place .0))
       (λ t. ref-off (kind (t .life))))
 
-  -- 81
+  -- 81: the generations in entries are in range
   pub ref-generations : Ref ((i : ℕ) → i < s .heap .len → entryAt (s .heap) i .generation < 2 ^ 30) (generationsFit s)
   ref-generations = ref-items s m k a b _ _ (λ i l. ref-lt (entryAt (s .heap) i .generation) (2 ^ 30))
 
-  -- 82
+  -- 82: the places in entries and in the list are in range
   pub ref-places : Ref
       (((i : ℕ) → i < s .heap .len → entryAt (s .heap) i .place .0 < cap) × ((p : ℕ) → Mem p (listed s) → p < cap)) (placesFit s)
   ref-places =

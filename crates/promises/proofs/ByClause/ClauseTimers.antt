@@ -83,11 +83,11 @@ module _ (s : Set) (n : length (s .timers) ≡ cap) where
   listed-same : listed s ≡ nodes (afterAt s) (suc cap) (headOf (s .first))
   listed-same = nodes-same _ (afterAt s) after-same (suc cap) (headOf (s .first))
 
-  -- 31
+  -- 31: who is marked waiting is in the list
   pub ref-waiters : Ref ((p : ℕ) → p < cap → isWaiting (timerAt s p .waiting) ≡ true → Mem p (listed s)) (waitersListed s)
   ref-waiters = ref-timers _ _ (λ p l. ref-shut (isWaiting (timerAt s p .waiting)) (ref-mem p (listed s)))
 
-  -- 32
+  -- 32: who is in the list waits
   pub ref-only : Ref ((p : ℕ) → Mem p (listed s) → waitsAt s p ≡ true) (onlyWaiters s)
   ref-only =
       ref-members _ (λ p. there false (λ t. isWaiting (t .waiting)) (element (s .timers) p)) (listed s) 0
@@ -98,7 +98,7 @@ module _ (s : Set) (n : length (s .timers) ≡ cap) where
       marked-waits s p (r .0) (ap (λ (x : Timer). isWaiting (x .waiting)) (r .1) ∙ t .2))
       (λ e. (timerAt s p, timer-in p (below s p e), waits-marked s p e)))
 
-  -- 33
+  -- 33: nobody is in the list twice
   pub ref-once : Ref ((p : ℕ) → Mem p (listed s) → times p (listed s) ≡ 1) (listedOnce s)
   ref-once = ref-members _ (λ p. eqb (times p (listed s)) 1) (listed s) 0 (λ p. ref-eq (times p (listed s)) 1)
 
@@ -128,7 +128,7 @@ module _ (s : Set) (n : length (s .timers) ≡ cap) where
       let c = count-le (waitsAt s) cap in
       subst (Lists (waitsAt s) cap) (sym (listed-same ∙ chain-met (waitsAt s) (afterAt s) (r .0) (headOf (s .first)) (suc cap) (r .1) (omega arith))) (r .2)
 
-  -- 41, 42
+  -- 41, 42: no word of a live timer of an open set is marked invalid, and none of a cancelled one
   pub ref-live : Ref (s .closed ≡ false → (p : ℕ) → p < cap → (w : ℕ) → liveWord (timerAt s p .life) ≡ some w → invalidIn w ≡ false) (liveUnmarked s)
   ref-live =
       ref-open (s .closed)
@@ -140,7 +140,7 @@ module _ (s : Set) (n : length (s .timers) ≡ cap) where
       ref-open (s .closed)
       (ref-timers _ _ (λ p l. ref-any (λ w. invalidIn w ≡ false) (λ w. not (invalidIn w)) (cancelledWord (timerAt s p .life)) (λ w. ref-off (invalidIn w))))
 
-  -- 43
+  -- 43: the list of a closed set is empty
   pub ref-closed-list : Ref (s .closed ≡ true → s .first ≡ First.Nothing) (closedList s)
   unfolding nodes
   ref-closed-list =
@@ -152,14 +152,14 @@ module _ (s : Set) (n : length (s .timers) ≡ cap) where
       go First.Nothing e = refl
       go (First.At p) e = absurd (let z : _≡_ {A = ℕ} 0 1 = cc in omega arith)
 
-  -- 53, 54
+  -- 53, 54: no place of this kind is in the list
   pub ref-none-listed : (kind : Life → Bool)
       → Ref ((p : ℕ) → Mem p (listed s) → (t : Timer) → element (s .timers) p ≡ some t → kind (t .life) ≡ false) (noneListed kind s)
   ref-none-listed kind =
       ref-members _ (λ p. there true (λ t. not (kind (t .life))) (element (s .timers) p)) (listed s) 0
       (λ p. ref-any (λ t. kind (t .life) ≡ false) (λ t. not (kind (t .life))) (element (s .timers) p) (λ t. ref-off (kind (t .life))))
 
-  -- 61
+  -- 61: a cancelled timer of an open set is in the list
   pub ref-cancelled-listed : Ref
       (s .closed ≡ false → (p : ℕ) → p < cap → (w : ℕ) → cancelledWord (timerAt s p .life) ≡ some w → Mem p (listed s)) (cancelledListed s)
   ref-cancelled-listed =

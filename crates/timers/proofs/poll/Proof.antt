@@ -2,8 +2,8 @@
 -- Assumes nothing.
 use mathlib.Core.Path.{sym, ap, _∙_}
 use mathlib.Core.Bool.{false}
-use borrow.Author.Needs.{needs}
 use Prim.Native.Nat.{ℕ}
+use borrow.Author.Needs.{needs}
 use Rattle.refusals.specs.Answer.{Answer}
 use Rattle.timers.specs.Calls.{gives, polled, pollBy, pollOf}
 use Rattle.timers.proofs.Alive.{at-door}

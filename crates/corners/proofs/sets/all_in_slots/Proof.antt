@@ -7,10 +7,10 @@ use Rattle.corners.proofs.sets.all_in_slots.Statement.{statement}
 use Rattle.corners.proofs.sets.all_in_slots.Tie as tie
 
 abbrev Inv-loop : tie.InvT-loop
-Inv-loop h s₀ p₀ s p = p ≤ cap
+Inv-loop s₀ p₀ s p = p ≤ cap
 
 abbrev μ-loop : tie.MeasureT-loop
-μ-loop h s₀ p₀ s p = cap - p
+μ-loop s₀ p₀ s p = cap - p
 
 pub all-in-slots-spec : {M : Type 1} → statement M
 all-in-slots-spec =

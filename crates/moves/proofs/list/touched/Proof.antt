@@ -12,7 +12,9 @@ returns c = rw (sym (c .before .waits .ensures) ∙ c .if1 .taken)
 
 returns-2 : tie.Need-returns-2
 unfolding touchedOf
-returns-2 c = rw (sym (c .before .before .waits .ensures) ∙ c .before .if1 .left, c .link-to .ensures)
+returns-2 c =
+    let l = c .before .before in
+    rw (sym (l .before .before .waits .ensures) ∙ l .before .if1 .left, l .link-to .ensures)
 
 pub touched-spec : {M : Type 1} → statement M
 touched-spec =

@@ -17,20 +17,20 @@ returns c =
 
 returns-2 : tie.Need-returns-2
 returns-2 c =
-    list-next (c .before .before .before .before .before .before .before .before .args .s) (c .before .before .before .before .before .before .first-fault .ensures) (c .before .before .before .before .enum-told .given .1) (c .before .before .before .list-scan .ensures) (c .before .k .given .1)
+    list-next (c .before .before .before .before .before .before .before .before .before .args .s) (c .before .before .before .before .before .before .before .first-fault .ensures) (c .before .before .before .before .before .enum-told .given .1) (c .before .before .before .list-scan .ensures) (c .before .k .given .1)
 
 place-scan-requires : tie.Need-place-scan-requires
 place-scan-requires c κs =
-    heap-sound (c .before .before .before .before .before .before .before .args .s) (c .before .before .before .before .before .first-fault .ensures) (c .before .before .before .enum-told .given .1) (search (needs, unmapped)) (search (needs, unmapped))
+    heap-sound (c .before .before .before .before .before .before .before .before .args .s) (c .before .before .before .before .before .before .first-fault .ensures) (c .before .before .before .before .enum-told .given .1) (search (needs, unmapped)) (search (needs, unmapped))
 
 entry-scan-requires : tie.Need-entry-scan-requires
 entry-scan-requires c κs =
-    heap-sound (c .before .before .before .before .before .before .before .before .args .s) (c .before .before .before .before .before .before .first-fault .ensures) (c .before .before .before .before .enum-told .given .1) (search (needs, unmapped)) (search (needs, unmapped))
+    heap-sound (c .before .before .before .before .before .before .before .before .before .args .s) (c .before .before .before .before .before .before .before .first-fault .ensures) (c .before .before .before .before .before .enum-told .given .1) (search (needs, unmapped)) (search (needs, unmapped))
 
 -- where heap and list have no fault, the places decide
-rest : (c : tie.After-lower) → faultBy atPlace (scanned (c .lower .result)) ≡ faultOf (c .before .before .before .before .before .before .before .before .before .before .args .s)
+rest : (c : tie.After-lower) → faultBy atPlace (scanned (c .lower .result)) ≡ faultOf (c .before .before .before .before .before .before .before .before .before .before .before .args .s)
 rest c =
-    place-last (c .before .before .before .before .before .before .before .before .before .before .args .s) (c .before .before .before .before .before .before .before .before .first-fault .ensures) (c .before .before .before .before .before .before .enum-told .given .1)
+    place-last (c .before .before .before .before .before .before .before .before .before .before .before .args .s) (c .before .before .before .before .before .before .before .before .before .first-fault .ensures) (c .before .before .before .before .before .before .before .enum-told .given .1)
     (c .before .before .place-scan .result) (c .before .entry-scan .result) (c .lower .result)
     (c .before .before .before .before .before .list-scan .ensures) (c .before .before .before .enum-told2 .given .1) (c .before .before .place-scan .ensures) (c .before .entry-scan .ensures) (c .lower .ensures)
 
@@ -48,6 +48,7 @@ first-fault-spec =
     (λ c. search needs)
     (λ c κs. search needs)
     returns
+    (λ c κs. search needs)
     (λ c κs. search needs)
     (λ c. search needs)
     returns-2

@@ -1,5 +1,5 @@
 -- `fault::list_scan` is right: at each turn the rest of the walk goes wrong where the whole walk does. It begins with as many
--- timers to go as wait.
+-- timers to go as wait, which its caller has counted.
 -- Assumes nothing.
 use mathlib.Core.Path.{_≡_, sym, ap, _∙_}
 use Prim.Native.Nat.{_+_, _-_, _≤_}
@@ -14,34 +14,34 @@ use Rattle.state.proofs.fault.list_scan.Statement.{statement}
 use Rattle.state.proofs.fault.list_scan.Tie as tie
 
 abbrev Inv-loop : tie.InvT-loop
-Inv-loop s left₀ step₀ at₀ left step at = (step + left ≤ cap) × (listFrom s left step at ≡ listScan s)
+Inv-loop n s left₀ step₀ at₀ left step at = (step + left ≤ cap) × (listFrom s left step at ≡ listScan s)
 
 abbrev μ-loop : tie.MeasureT-loop
-μ-loop s left₀ step₀ at₀ left step at = left
+μ-loop n s left₀ step₀ at₀ left step at = left
 
 loop-holds : tie.Need-loop-holds Inv-loop μ-loop
 loop-holds c =
-    let s = c .before .args .t1 in
-    (omega (arith, count-le (waitsAt s) cap, c .waiting-count .ensures), list-starts s (c .waiting-count .ensures))
+    let s = c .args .t1 in
+    (omega (arith, count-le (waitsAt s) cap, c .pre), list-starts s (c .pre))
 
 returns : tie.Need-returns Inv-loop μ-loop
 returns c =
-    sym (list-short (c .before .before .before .before .before .args .t1) (omega arith) (c .enum-told .given .1))
+    sym (list-short (c .before .before .before .before .args .t1) (omega arith) (c .enum-told .given .1))
     ∙ c .before .before .before .loop .inv .1
 
 returns-2 : tie.Need-returns-2 Inv-loop μ-loop
 returns-2 c =
-    sym (list-past (c .before .before .before .before .before .before .before .before .args .t1) (omega arith) (c .before .before .before .at .given .1) (c .if1 .taken))
+    sym (list-past (c .before .before .before .before .before .before .before .args .t1) (omega arith) (c .before .before .before .at .given .1) (c .if1 .taken))
     ∙ c .before .before .before .before .before .before .loop .inv .1
 
 returns-3 : tie.Need-returns-3 Inv-loop μ-loop
 returns-3 c =
-    sym (list-still (c .before .before .before .before .before .before .before .before .before .before .before .args .t1) (omega arith) (c .before .before .before .before .before .before .at .given .1) (c .before .before .before .if1 .left) (sym (c .before .waits .ensures) ∙ not-true _ (c .if2 .taken)))
+    sym (list-still (c .before .before .before .before .before .before .before .before .before .before .args .t1) (omega arith) (c .before .before .before .before .before .before .at .given .1) (c .before .before .before .if1 .left) (sym (c .before .waits .ensures) ∙ not-true _ (c .if2 .taken)))
     ∙ c .before .before .before .before .before .before .before .before .before .loop .inv .1
 
 loop-again : tie.Need-loop-again Inv-loop μ-loop
 loop-again c =
-    let s = c .before .before .before .before .before .before .before .before .before .before .before .before .args .t1 in
+    let s = c .before .before .before .before .before .before .before .before .before .before .before .args .t1 in
     let l = c .before .before .before .before .before .before .before .before .before .before .loop in (
       omega arith,
       ap (listFrom s (l .left - 1) (l .step + 1)) (c .after .ensures)
@@ -51,12 +51,12 @@ loop-again c =
 
 returns-4 : tie.Need-returns-4 Inv-loop μ-loop
 returns-4 c =
-    sym (list-ends (c .before .before .before .before .before .args .t1) (c .before .before .before .loop .step) (omega arith) (c .enum-told2 .given .1))
+    sym (list-ends (c .before .before .before .before .args .t1) (c .before .before .before .loop .step) (omega arith) (c .enum-told2 .given .1))
     ∙ c .before .before .before .loop .inv .1
 
 returns-5 : tie.Need-returns-5 Inv-loop μ-loop
 returns-5 c =
-    sym (list-long (c .before .before .before .before .before .args .t1) (omega arith) (c .enum-told3 .given .1))
+    sym (list-long (c .before .before .before .before .args .t1) (omega arith) (c .enum-told3 .given .1))
     ∙ c .before .before .before .loop .inv .1
 
 pub list-scan-spec : {M : Type 1} → statement M
@@ -65,7 +65,6 @@ list-scan-spec =
     (tie.spec
     Inv-loop
     μ-loop
-    (λ c κs. search needs)
     loop-holds
     (λ c. search needs)
     (λ c. search needs)
