@@ -40,7 +40,7 @@ unfolding unlistFrom
 unlist-done s e = rw e
 
 -- a place out of range ends the list, and nothing is stored
-pub unlisted-out : (s : Set) (p : ℕ) → length (s .timers) ≤ p → unlistedOf s p ≡ withFirst s First.Nothing
+unlisted-out : (s : Set) (p : ℕ) → length (s .timers) ≤ p → unlistedOf s p ≡ withFirst s First.Nothing
 unfolding unlistedOf
 unlisted-out s p b =
     rw (List·getD-eq-default (s .timers) noTimer b, set-out (s .timers) p (record { life = markedLife (noTimer .life); waiting = No; held = Held.Nothing; uses = 0 }) b)
@@ -51,7 +51,7 @@ unlist-out n s p b e o =
     unlist-goes n s p b e ∙ ap (unlistFrom (n - 1)) (unlisted-out s (p .0) o) ∙ unlist-ends (n - 1) (withFirst s First.Nothing) refl
 
 -- what taking a timer off keeps, emptying the list keeps
-pub unlist-keeps : (P : Set → Type 0) → ((s : Set) (p : ℕ) → P s → P (unlistedOf s p)) → (n : ℕ) (s : Set) → P s → P (unlistFrom n s)
+unlist-keeps : (P : Set → Type 0) → ((s : Set) (p : ℕ) → P s → P (unlistedOf s p)) → (n : ℕ) (s : Set) → P s → P (unlistFrom n s)
 unfolding unlistFrom
 unlist-keeps P step zero s x = x
 unlist-keeps P step (suc k) s x = go (s .first) (λ p. unlist-keeps P step k (unlistedOf s p) (step s p x))
@@ -64,11 +64,6 @@ unlist-keeps P step (suc k) s x = go (s .first) (λ p. unlist-keeps P step k (un
 pub unlist-heap : (n : ℕ) (s : Set) → unlistFrom n s .heap ≡ s .heap
 unfolding unlistedOf
 unlist-heap n s = unlist-keeps (λ x. x .heap ≡ s .heap) (λ x p e. e) n s refl
-
--- there are as many places as before
-pub unlist-timers : (n : ℕ) (s : Set) → length (unlistFrom n s .timers) ≡ length (s .timers)
-unfolding unlistedOf
-unlist-timers n s = unlist-keeps (λ x. length (x .timers) ≡ length (s .timers)) (λ x p e. simp length-set e) n s refl
 
 -- THE HEAP
 
@@ -88,12 +83,6 @@ pub popped-out : (s : Set) → length (s .timers) ≤ entryAt (s .heap) 0 .place
 unfolding poppedOf
 popped-out s b = rw (set-out (s .timers) (entryAt (s .heap) 0 .place .0) _ b)
 
--- what a pop keeps, emptying the heap keeps
-pub empty-keeps : (P : Set → Type 0) → ((s : Set) → P s → P (poppedOf s)) → (n : ℕ) (s : Set) → P s → P (emptyFrom n s)
-unfolding emptyFrom
-empty-keeps P step zero s x = x
-empty-keeps P step (suc k) s x = empty-keeps P step k (poppedOf s) (step s x)
-
 -- a pop keeps the heap sound
 pub popped-heap : (s : Set) → Sound (s .heap) → Sound (poppedOf s .heap)
 unfolding poppedOf
@@ -103,11 +92,3 @@ popped-heap s h = pop-sound (s .heap) h
 pub popped-timers : (s : Set) → length (poppedOf s .timers) ≡ length (s .timers)
 unfolding poppedOf
 popped-timers s = simp length-set
-
--- so emptying the heap keeps it sound
-pub empty-heap : (n : ℕ) (s : Set) → Sound (s .heap) → Sound (emptyFrom n s .heap)
-empty-heap n s h = empty-keeps (λ x. Sound (x .heap)) popped-heap n s h
-
--- and keeps the number of places
-pub empty-timers : (n : ℕ) (s : Set) → length (emptyFrom n s .timers) ≡ length (s .timers)
-empty-timers n s = empty-keeps (λ x. length (x .timers) ≡ length (s .timers)) (λ x e. popped-timers x ∙ e) n s refl

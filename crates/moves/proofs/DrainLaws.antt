@@ -4,7 +4,7 @@
 use mathlib.Core.Path.{_≡_, refl, sym, ap, _∙_}
 use mathlib.Core.List.{List}
 use Prim.Native.Nat.{ℕ, zero, suc, _≤_}
-use lib.ListN.{length, length-set, List·getD-eq-default}
+use lib.ListN.{length, List·getD-eq-default}
 use lib.Seq.{set-out}
 use Rattle.refusals.specs.Answer.{Outcome}
 use Rattle.heap.specs.declared.Slot.{Slot}
@@ -80,17 +80,6 @@ module _ (s : Set) (p : ℕ) where
       go (Cancelled w) = dropped-sound (s .heap) h (timerAt s p .held)
       go Retired = h
 
-  -- and the number of places
-  pub settled-long : length (settledOf s p .timers) ≡ length (s .timers)
-  unfolding settledOf
-  settled-long = go (timerAt s p .life)
-    where
-      go : (l : Life) → length (settledBy (without s p) p (timerAt s p) l .timers) ≡ length (s .timers)
-      go Free = length-set (s .timers) p _
-      go (Live w d) = length-set (s .timers) p _
-      go (Cancelled w) = length-set (s .timers) p _
-      go Retired = length-set (s .timers) p _
-
 -- while the list has a head, its update is made and the drain goes on
 pub drain-goes : (k : ℕ) (s : Set) {p : Place} → s .first ≡ First.At p → drainFrom (suc k) s ≡ drainFrom k (settledOf s (p .0))
 unfolding drainFrom
@@ -117,7 +106,3 @@ drain-keeps P one (suc k) s h =
 -- a drain keeps the heap sound
 pub drained-heap : (k : ℕ) (s : Set) → Sound (s .heap) → Sound (drainFrom k s .heap)
 drained-heap = drain-keeps (λ s. Sound (s .heap)) settled-heap
-
--- and the number of places
-pub drained-long : (k : ℕ) (s : Set) → length (drainFrom k s .timers) ≡ length (s .timers)
-drained-long k s = drain-keeps (λ g. length (g .timers) ≡ length (s .timers)) (λ g p e. settled-long g p ∙ e) k s refl

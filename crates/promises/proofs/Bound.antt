@@ -177,16 +177,8 @@ reached n = many-more n 0 n (omega arith) (run ours (resetting 0)) none-yet
 
 -- THE BOUND
 
--- no timer has had more resets than n since the drain
-pub one-too-many : (n : ℕ) (h : Handle) → run ours (resetting n) .ledger .line h .resets ≤ n
-one-too-many n h = reached n .most h
-
--- and this one has had n
-pub resets-counted : (n : ℕ) → run ours (resetting n) .ledger .line its .resets ≡ n
-resets-counted n = reached n .all
-
 -- of which the last is not drained, and its deadline is 20
-pub not-yet : (n : ℕ) → 1 ≤ n → (run ours (resetting n) .ledger .line its .drained ≡ false) × (run ours (resetting n) .ledger .line its .due ≡ 20)
+not-yet : (n : ℕ) → 1 ≤ n → (run ours (resetting n) .ledger .line its .drained ≡ false) × (run ours (resetting n) .ledger .line its .due ≡ 20)
 not-yet n b = (reached n .undrained b, reached n .later b)
 
 -- an add is no reset
@@ -209,7 +201,7 @@ unfolding Bounded from
 within n b = (λ h. omega arith, (first-low, bounded-more n 0 (omega arith) (run ours (resetting 0)) none-yet))
 
 -- an advance is accepted, however many there were
-pub too-many-accepted : (n : ℕ) → Accepted ours (run ours (resetting n)) (C.Advance 10) words
+too-many-accepted : (n : ℕ) → Accepted ours (run ours (resetting n)) (C.Advance 10) words
 too-many-accepted n = advance-accepted ours every (run ours (resetting n)) _ (moment (resetting n)) (reached n .still-open) words (omega arith) 10 refl
 
 -- with fewer than 2^30 resets its reports are exact

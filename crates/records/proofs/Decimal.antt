@@ -33,7 +33,7 @@ unfolding decimal
 decimal-more n h = rw (le-ltb n 10 h) (ap (λ (l : List ℕ). l ++ (digit (n % 10) ∷ [])) (same n (suc (n / 10)) (n / 10) (omega arith) (omega arith)))
 
 -- below a power of ten there are as many digits as it says, or fewer
-pub decimal-short : (k n : ℕ) → n < 10 ^ suc k → length (decimal n) ≤ suc k
+decimal-short : (k n : ℕ) → n < 10 ^ suc k → length (decimal n) ≤ suc k
 decimal-short zero n h = rw (decimal-one n h) (omega arith)
 decimal-short (suc k) n h =
     by-cases (decLt n 10)

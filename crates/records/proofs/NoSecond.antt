@@ -36,7 +36,7 @@ decoded-back : (r : Decoded) → decodedBy (saidDecoded r) ≡ r
 decoded-back (D.Call c) = refl
 decoded-back (D.Refused r) = ap D.Refused (refusal-back r)
 
-pub decoded-apart : TellsApart saidDecoded
+decoded-apart : TellsApart saidDecoded
 decoded-apart = undone-apart saidDecoded decodedBy decoded-back
 
 -- what a line tells tells any two lines apart
@@ -49,10 +49,10 @@ wake-back : (w : Wake) → wakeBack (saidWake w) ≡ w
 wake-back (W.At t) = refl
 wake-back W.Nothing = refl
 
-pub wake-apart : TellsApart saidWake
+wake-apart : TellsApart saidWake
 wake-apart = undone-apart saidWake wakeBack wake-back
 
-pub line-apart : TellsApart saidLine
+line-apart : TellsApart saidLine
 line-apart (L.Unread r) (L.Unread r′) e = let n : numberOf r ≡ numberOf r′ = cc in ap L.Unread (number-apart r r′ n)
 line-apart (L.Unread r) (L.Made o a w) e = let z : _≡_ {A = ℕ} 0 1 = cc in absurd (omega arith)
 line-apart (L.Made o a w) (L.Unread r) e = let z : _≡_ {A = ℕ} 0 1 = cc in absurd (omega arith)
@@ -88,7 +88,7 @@ replay-no-second = by-rule toldBoth (λ (q : Set × List ℕ × List ℕ). repla
 abbrev asWritten : ℕ × List ℕ → Written
 asWritten r = record { count = r .0; bytes = r .1 }
 
-pub written-apart : TellsApart asWritten
+written-apart : TellsApart asWritten
 written-apart = undone-apart asWritten (λ (w : Written). (w .count, w .bytes)) (λ (r : ℕ × List ℕ). refl)
 
 pub write-line-no-second : NoSecond (λ (q : Line × List ℕ × List ℕ) (r : ℕ × List ℕ). Writes (q .0) (q .1) (q .2) (r .0) (r .1))

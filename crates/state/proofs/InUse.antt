@@ -106,7 +106,7 @@ module _ (s : Set) (g : Heap) (r : Heap.Twins g (s .heap)) where
       go (H.FreeChain k) e = refl
 
 -- the scans find the same fault
-pub fault-in-use : {a b : Set} → Twins a b → faultOf a ≡ faultOf b
+fault-in-use : {a b : Set} → Twins a b → faultOf a ≡ faultOf b
 fault-in-use r = by-heap (λ (a b : Set). faultOf a ≡ faultOf b) fault-over r
 
 -- the test says the same

@@ -124,7 +124,7 @@ module _ (s : Set) where
       (λ f. (f .goes, (f .idle, f .owns)))
 
   -- the test of an entry
-  pub ref-entry : (i : ℕ) → Ref (EntryFine s i) (entryOk s i)
+  ref-entry : (i : ℕ) → Ref (EntryFine s i) (entryOk s i)
   unfolding entryOk
   ref-entry i =
       let e = entryAt (s .heap) i in

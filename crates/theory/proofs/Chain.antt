@@ -3,10 +3,10 @@
 -- Assumes nothing.
 use mathlib.Core.Path.{_≡_, refl, sym, _∙_, ap, ap₂, subst}
 use mathlib.Core.Logic.{inl, inr}
-use mathlib.Core.Bool.{Bool, true, false, _&&_}
+use mathlib.Core.Bool.{Bool, true, _&&_}
 use mathlib.Core.Option.{Option, none, some}
 use mathlib.Core.List.{List, [], _∷_}
-use Prim.Native.Nat.{ℕ, zero, suc, _-_, _<_, _≤_}
+use Prim.Native.Nat.{ℕ, zero, suc, _<_, _≤_}
 use native.Mathlib.Omega.{arith}
 use lib.ListN.{length}
 use Rattle.theory.specs.Counting.{count, Mem, Distinct, Lists}
@@ -15,18 +15,6 @@ use Rattle.theory.proofs.Tests.{true-false, and-left, and-right}
 use Rattle.theory.proofs.Pigeonhole.{pigeonhole}
 
 module _ (ok : ℕ → Bool) (next : ℕ → Option ℕ) where
-  -- a walk at a node with n nodes to go: the node is tested, and n - 1 are to go
-  pub walk-to : (n x : ℕ) → 0 < n → walkb ok next n (some x) ≡ (ok x && walkb ok next (n - 1) (next x))
-  unfolding walkb
-  walk-to zero x h = absurd (omega arith)
-  walk-to (suc n) x h = let e : n ≡ suc n - 1 = omega arith in ap (λ (k : ℕ). ok x && walkb ok next k (next x)) e
-
-  -- a walk that ends with nodes to go says no
-  pub walk-short : (n : ℕ) → 0 < n → walkb ok next n none ≡ false
-  unfolding walkb
-  walk-short zero h = absurd (omega arith)
-  walk-short (suc n) h = refl
-
   -- a walk of n nodes that says yes has gone along a chain of n nodes
   pub walk-chain : (n : ℕ) (h : Option ℕ) → walkb ok next n h ≡ true → (l : List ℕ) × (length l ≡ n) × Chain ok next h l
   unfolding walkb
@@ -50,7 +38,7 @@ module _ (ok : ℕ → Bool) (next : ℕ → Option ℕ) where
   chain-nodes (x ∷ l) h c = rw (c .0) (ap (_∷_ x) (chain-nodes l (next x) (c .2)))
 
   -- two chains from the same head are one
-  pub chain-one : (l m : List ℕ) (h : Option ℕ) → Chain ok next h l → Chain ok next h m → l ≡ m
+  chain-one : (l m : List ℕ) (h : Option ℕ) → Chain ok next h l → Chain ok next h m → l ≡ m
   chain-one [] [] h c d = refl
   chain-one [] (y ∷ m) h c d = cc
   chain-one (x ∷ l) [] h c d = cc

@@ -18,7 +18,7 @@ use Rattle.theory.proofs.ChainTest.{ok-chain, chain-whole}
 -- the same numbers pass and those have the same links: what a number that does not pass names is never read
 module _ (ok ok' : ℕ → Bool) (next next' : ℕ → Option ℕ) (a : (y : ℕ) → ok y ≡ ok' y) (b : (y : ℕ) → ok y ≡ true → next y ≡ next' y) where
   -- a walk says the same
-  pub walk-same : (n : ℕ) (h : Option ℕ) → walkb ok next n h ≡ walkb ok' next' n h
+  walk-same : (n : ℕ) (h : Option ℕ) → walkb ok next n h ≡ walkb ok' next' n h
   unfolding walkb
   walk-same zero none = refl
   walk-same zero (some x) = refl
@@ -35,27 +35,12 @@ module _ (ok ok' : ℕ → Bool) (next next' : ℕ → Option ℕ) (a : (y : ℕ
   unfolding chainOkb
   chain-same cap h = walk-same (count ok cap) h ∙ ap (λ (n : ℕ). walkb ok' next' n h) (count-same ok ok' cap (λ i _. a i))
 
-  -- a chain is still one
-  pub chain-kept : (l : List ℕ) (h : Option ℕ) → Chain ok next h l → Chain ok' next' h l
-  chain-kept [] h c = c
-  chain-kept (x ∷ l) h c = (
-    c .0,
-    sym (a x) ∙ c .1,
-    subst (λ (k : Option ℕ). Chain ok' next' k l) (b x (c .1)) (chain-kept l (next x) (c .2)),
-  )
-
-  -- the nodes are the same, where the test says yes
-  pub list-same : (cap : ℕ) (h : Option ℕ) → chainOkb ok next cap h ≡ true → chainOf ok' next' cap h ≡ chainOf ok next cap h
-  list-same cap h w =
-      let r = ok-chain ok next cap h w in
-      chain-whole ok' next' cap (chainOf ok next cap h) h (r .0 ∙ count-same ok ok' cap (λ i _. a i)) (chain-kept (chainOf ok next cap h) h (r .1)) .1
-
 -- the test and the links may change at x, and nowhere else
 module _ (ok ok' : ℕ → Bool) (next next' : ℕ → Option ℕ) (x : ℕ)
     (same-ok : (y : ℕ) → (y ≡ x → ⊥) → ok y ≡ ok' y) (same-next : (y : ℕ) → (y ≡ x → ⊥) → next y ≡ next' y)
   where
     -- a chain that x is not on is still one
-    pub chain-off : (l : List ℕ) (h : Option ℕ) → (Mem x l → ⊥) → Chain ok next h l → Chain ok' next' h l
+    chain-off : (l : List ℕ) (h : Option ℕ) → (Mem x l → ⊥) → Chain ok next h l → Chain ok' next' h l
     chain-off [] h n c = c
     chain-off (y ∷ l) h n c =
         let other : y ≡ x → ⊥ = λ e. n (inl (sym e)) in (
@@ -65,7 +50,7 @@ module _ (ok ok' : ℕ → Bool) (next next' : ℕ → Option ℕ) (x : ℕ)
         )
 
     -- x did not pass, and now passes and names the head: it stands in front of the chain
-    pub push-chain : (h : Option ℕ) (l : List ℕ) → ok x ≡ false → ok' x ≡ true → next' x ≡ h
+    push-chain : (h : Option ℕ) (l : List ℕ) → ok x ≡ false → ok' x ≡ true → next' x ≡ h
         → Chain ok next h l → Chain ok' next' (some x) (x ∷ l)
     push-chain h l off on e c = (
       refl,
@@ -75,7 +60,7 @@ module _ (ok ok' : ℕ → Bool) (next next' : ℕ → Option ℕ) (x : ℕ)
     )
 
     -- x stood in front: what it named is the head of the rest
-    pub pop-chain : (l : List ℕ) → Chain ok next (some x) (x ∷ l) → Chain ok' next' (next x) l
+    pop-chain : (l : List ℕ) → Chain ok next (some x) (x ∷ l) → Chain ok' next' (next x) l
     pop-chain l c = chain-off l (next x) (chain-distinct ok next (x ∷ l) (some x) c .0) (c .2)
 
 -- the same of all numbers below cap that pass

@@ -28,9 +28,3 @@ module _ {A : Type 0} (key : A → ℕ) (d : A) (xs : List A) (n i : ℕ) where
     where
       left-of : k ≢ 2 * i + 2 → k ≡ 2 * i + 1
       left-of a = omega arith
-
-  -- the right one is chosen only where it is below n and its key is less than the left one's: of equals the left one rises
-  pub child-right : child key d xs n i ≡ 2 * i + 2 → (2 * i + 2 < n) × (at key d xs (2 * i + 2) < at key d xs (2 * i + 1))
-  unfolding child
-  child-right = cond-ref (λ (c : ℕ). c ≡ 2 * i + 2 → (2 * i + 2 < n) × (at key d xs (2 * i + 2) < at key d xs (2 * i + 1)))
-      (ref-and (ref-lt (2 * i + 2) n) (ref-lt (at key d xs (2 * i + 2)) (at key d xs (2 * i + 1)))) (λ q e. q) (λ q e. absurd (omega arith))

@@ -16,13 +16,13 @@ use Rattle.theory.proofs.Walks.{up-run, down-run}
 
 module _ {A : Type 0} (key : A → ℕ) (d : A) (w : A → ℕ) where
   -- a walk up keeps the weight
-  pub up-total : {xs ys : List A} {i j s : ℕ} → Up key d xs i ys j s → i < length xs → total w ys ≡ total w xs
+  up-total : {xs ys : List A} {i j s : ℕ} → Up key d xs i ys j s → i < length xs → total w ys ≡ total w xs
   up-total (Up.stop t) h = refl
   up-total (Up.move {xs = xs} {i = i} p l r) h =
       up-total r (omega (arith, length-swap d xs i (parent i))) ∙ total-swap d xs i (parent i) h (omega arith) (omega arith) w
 
   -- a walk down keeps the weight
-  pub down-total : {n : ℕ} {xs ys : List A} {i j s : ℕ} → Down key d n xs i ys j s → n ≤ length xs → i < n → total w ys ≡ total w xs
+  down-total : {n : ℕ} {xs ys : List A} {i j s : ℕ} → Down key d n xs i ys j s → n ≤ length xs → i < n → total w ys ≡ total w xs
   down-total (Down.stop t) e h = refl
   down-total (Down.move {xs = xs} {i = i} c z p b q l m r) e h =
       down-total r (omega (arith, length-swap d xs i c)) b ∙ total-swap d xs i c (omega arith) (omega arith) (omega arith) w

@@ -30,7 +30,7 @@ module _ {A : Type 0} (d : A) where
     swap-right = getD-set-same (set xs i (getD xs j d)) j (getD xs i d) d (lt-length-set xs i (getD xs j d) hj)
 
     -- elsewhere nothing changes
-    pub swap-other : (k : ℕ) → k ≢ i → k ≢ j → getD (swapAt d xs i j) k d ≡ getD xs k d
+    swap-other : (k : ℕ) → k ≢ i → k ≢ j → getD (swapAt d xs i j) k d ≡ getD xs k d
     unfolding swapAt
     swap-other k p q = rw (getD-set-other, getD-set-other)
 

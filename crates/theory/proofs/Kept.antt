@@ -16,33 +16,33 @@ use Rattle.theory.proofs.Walks.{up-run, down-run, up-length, down-lengt
 
 module _ {A : Type 0} (key : A → ℕ) (d : A) where
   -- n entries in heap order are a list in heap order
-  pub good-ordered : {n : ℕ} {ys : List A} → Good key d n ys → Ordered key d ys
+  good-ordered : {n : ℕ} {ys : List A} → Good key d n ys → Ordered key d ys
   good-ordered g k p h = g .heap k p (omega arith)
 
   -- a walk up from the one place that may be too small makes the first n entries a heap; the list may go on behind them
-  pub up-heap : {xs ys : List A} {i j s : ℕ} → Up key d xs i ys j s → (n : ℕ) → n ≤ length xs → i < n → UpOrd (at key d xs) n i → Heap (at key d ys) n
+  up-heap : {xs ys : List A} {i j s : ℕ} → Up key d xs i ys j s → (n : ℕ) → n ≤ length xs → i < n → UpOrd (at key d xs) n i → Heap (at key d ys) n
   up-heap (Up.stop t) n e h u = up-stop u t
   up-heap (Up.move {xs = xs} {i = i} p l r) n e h u =
       up-heap r n (omega (arith, length-swap d xs i (parent i))) (omega arith)
       (up-step u p h l (swapped d xs i (parent i) (omega arith) (omega arith) (omega arith) key))
 
   -- a walk down from the one place that may be too large makes the first n entries a heap; the list may go on behind them
-  pub down-heap : {n : ℕ} {xs ys : List A} {i j s : ℕ} → Down key d n xs i ys j s → n ≤ length xs → i < n → DownOrd (at key d xs) n i → Heap (at key d ys) n
+  down-heap : {n : ℕ} {xs ys : List A} {i j s : ℕ} → Down key d n xs i ys j s → n ≤ length xs → i < n → DownOrd (at key d xs) n i → Heap (at key d ys) n
   down-heap (Down.stop t) e h u = down-stop u t
   down-heap (Down.move {xs = xs} {i = i} c z p b q l m r) e h u =
       down-heap r (omega (arith, length-swap d xs i c)) b
       (down-step u p b q l m (swapped d xs i c (omega arith) (omega arith) (omega arith) key))
 
   -- a walk up from the one place of a list that may be too small leaves as many entries, in heap order
-  pub up-good : {xs ys : List A} {i j s : ℕ} → Up key d xs i ys j s → (n : ℕ) → length xs ≡ n → i < n → UpOrd (at key d xs) n i → Good key d n ys
+  up-good : {xs ys : List A} {i j s : ℕ} → Up key d xs i ys j s → (n : ℕ) → length xs ≡ n → i < n → UpOrd (at key d xs) n i → Good key d n ys
   up-good r n e h u = record { size = up-length key d r ∙ e; heap = up-heap r n (omega arith) h u }
 
   -- a walk down from the one place of a list that may be too large leaves as many entries, in heap order
-  pub down-good : {n : ℕ} {xs ys : List A} {i j s : ℕ} → Down key d n xs i ys j s → length xs ≡ n → i < n → DownOrd (at key d xs) n i → Good key d n ys
+  down-good : {n : ℕ} {xs ys : List A} {i j s : ℕ} → Down key d n xs i ys j s → length xs ≡ n → i < n → DownOrd (at key d xs) n i → Good key d n ys
   down-good r e h u = record { size = down-length key d r ∙ e; heap = down-heap r (omega arith) h u }
 
   -- a push on a heap leaves a heap with one entry more
-  pub push-good : (xs : List A) (x : A) → Ordered key d xs → Good key d (suc (length xs)) (push key d xs x .list)
+  push-good : (xs : List A) (x : A) → Ordered key d xs → Good key d (suc (length xs)) (push key d xs x .list)
   unfolding push
   push-good xs x o =
       up-good (up-run key d (length xs) (xs ++ (x ∷ [])) (length xs) (omega arith)) (suc (length xs)) (simp length-append (omega arith)) (omega arith)

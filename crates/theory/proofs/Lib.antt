@@ -19,6 +19,4 @@ pub mod Entries
 pub mod Logarithm
 pub mod Swaps
 pub mod Pops
-pub mod OrderTest
-pub mod Array
 pub mod First

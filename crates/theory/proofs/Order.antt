@@ -12,7 +12,7 @@ pub split {ℓ} : {G : Type ℓ} (a b : ℕ) → (a ≡ b → G) → (a ≢ b �
 split a b f g = by-cases (ℕ-discrete a b) f g
 
 -- every place is one of the two exchanged or apart from both
-pub place-of : {f g : ℕ → ℕ} {i j : ℕ} → Swapped f g i j → (k : ℕ) → Place f g i j k
+place-of : {f g : ℕ → ℕ} {i j : ℕ} → Swapped f g i j → (k : ℕ) → Place f g i j k
 place-of {g = g} {i} {j} s k =
     split k i (λ e. first e (ap g e ∙ s .left))
     (λ n. split k j (λ e. second e (ap g e ∙ s .right)) (λ m. apart n m (s .other k n m)))

@@ -18,15 +18,15 @@ use Rattle.theory.proofs.Entries.{remove-total}
 
 module _ {A : Type 0} (key : A → ℕ) (d : A) where
   -- a removal leaves no entry without what every entry had
-  pub remove-all : (P : A → Type 0) → ((x : A) → Dec (P x)) → (xs : List A) (i : ℕ) → i < length xs → All P xs → All P (removeAt key d xs i .list)
+  remove-all : (P : A → Type 0) → ((x : A) → Dec (P x)) → (xs : List A) (i : ℕ) → i < length xs → All P xs → All P (removeAt key d xs i .list)
   remove-all P dec xs i h a = sub-all P dec xs (removeAt key d xs i .list) (λ w. omega (arith, remove-total key d w xs i h)) a
 
   -- no entry of a heap has a key less than the first one's
-  pub all-head : (x : A) (xs : List A) → Ordered key d (x ∷ xs) → All (λ y. key x ≤ key y) (x ∷ xs)
+  all-head : (x : A) (xs : List A) → Ordered key d (x ∷ xs) → All (λ y. key x ≤ key y) (x ∷ xs)
   all-head x xs o = all-places (λ y. key x ≤ key y) d (x ∷ xs) (head-least o)
 
   -- from a heap whose keys are all b or more, what comes out rises from b on
-  pub pop-rising : (f : ℕ) (xs : List A) (m b : ℕ) → Ordered key d xs → All (λ x. b ≤ key x) xs → Rising key b (popWhile key d f xs m .out)
+  pop-rising : (f : ℕ) (xs : List A) (m b : ℕ) → Ordered key d xs → All (λ x. b ≤ key x) xs → Rising key b (popWhile key d f xs m .out)
   unfolding popWhile
   pop-rising zero xs m b o a = tt
   pop-rising (suc f) [] m b o a = tt
@@ -68,15 +68,6 @@ module _ {A : Type 0} (key : A → ℕ) (d : A) where
   pop-limit (suc f) [] m = omega arith
   pop-limit (suc f) (x ∷ xs) m =
       cond-ref (λ (r : Popped A). length (r .out) ≤ suc f) (ref-le (key x) m) (λ q. omega (arith, pop-limit f (removeAt key d (x ∷ xs) 0 .list) m)) (λ q. omega arith)
-
-  -- what is left is in heap order, whatever the limit
-  pub pop-ordered : (f : ℕ) (xs : List A) (m : ℕ) → Ordered key d xs → Ordered key d (popWhile key d f xs m .left)
-  unfolding popWhile
-  pop-ordered zero xs m o = o
-  pop-ordered (suc f) [] m o = o
-  pop-ordered (suc f) (x ∷ xs) m o =
-      cond-ref (λ (r : Popped A). Ordered key d (r .left)) (ref-le (key x) m)
-      (λ q. pop-ordered f (removeAt key d (x ∷ xs) 0 .list) m (remove-ordered key d (x ∷ xs) 0 (zero-lt-suc (length xs)) o)) (λ q. o)
 
   -- where the limit is not less than the count, every key that is left is more than m
   pub pop-left : (f : ℕ) (xs : List A) (m : ℕ) → length xs ≤ f → Ordered key d xs → All (λ x. m < key x) (popWhile key d f xs m .left)

@@ -1,9 +1,9 @@
 -- What a store into one place of a list changes and leaves, seen entry by entry and through a function of the entries.
 -- Assumes nothing.
-use mathlib.Core.Path.{_≡_, refl, sym, ap, subst, _∙_}
+use mathlib.Core.Path.{_≡_, sym, ap, subst, _∙_}
 use mathlib.Core.Logic.{_≢_, by-cases}
-use mathlib.Core.List.{List, [], _∷_, map}
-use Prim.Native.Nat.{ℕ, zero, suc, _<_}
+use mathlib.Core.List.{List, map}
+use Prim.Native.Nat.{ℕ, _<_}
 use native.Mathlib.Decide.{ℕ-discrete}
 use lib.ListN.{length, getD, set, length-map, List·getD-map}
 use lib.Seq.{getD-set-same, getD-set-other, map-set-same}
@@ -30,12 +30,6 @@ module _ {A B : Type 0} (f : A → B) (d : A) (l : List A) (x : ℕ) (t : A) whe
   -- at the place itself f sees the new entry
   pub sees-here : x < length l → f (getD (set l x t) x d) ≡ f t
   sees-here h = ap f (getD-set-same l x t d h)
-
--- to store and then map is to map and then store
-pub map-set : {A B : Type 0} (f : A → B) (l : List A) (p : ℕ) (t : A) → map f (set l p t) ≡ set (map f l) p (f t)
-map-set f [] p t = refl
-map-set f (x ∷ l) zero t = refl
-map-set f (x ∷ l) (suc p) t = ap (λ (k : List _). f x ∷ k) (map-set f l p t)
 
 -- a list is as long as its image: with this, `search (needs, unmapped)` finds how long an array of structs in a struct is
 pub unmapped : {A B : Type 0} (f : A → B) (l : List A) (n : ℕ) → length (map f l) ≡ n → length l ≡ n

@@ -15,24 +15,24 @@ use Rattle.theory.proofs.Logarithm.{log2-le}
 
 module _ {A : Type 0} (key : A → ℕ) (d : A) where
   -- 2 to the exchanges of a walk up from i is at most i + 1
-  pub up-swaps : {xs ys : List A} {i j s : ℕ} → Up key d xs i ys j s → 2 ^ s ≤ i + 1
+  up-swaps : {xs ys : List A} {i j s : ℕ} → Up key d xs i ys j s → 2 ^ s ≤ i + 1
   up-swaps (Up.stop {i = i} t) = omega arith
   up-swaps (Up.move {i = i} {s = s} p l r) = omega (arith, up-swaps r)
 
   -- 2 to the exchanges of a walk down from i among n entries, times i + 1, is at most n
-  pub down-swaps : {n : ℕ} {xs ys : List A} {i j s : ℕ} → Down key d n xs i ys j s → i < n → 2 ^ s * (i + 1) ≤ n
+  down-swaps : {n : ℕ} {xs ys : List A} {i j s : ℕ} → Down key d n xs i ys j s → i < n → 2 ^ s * (i + 1) ≤ n
   down-swaps (Down.stop {i = i} t) h = omega arith
   down-swaps (Down.move {i = i} {s = s} c z p b q l m r) h =
       let k : 2 * (i + 1) ≤ c + 1 = omega arith in
       omega (arith, down-swaps r b, mul-le-mul-left (2 ^ s) k, ap (λ (x : ℕ). x * (i + 1)) (pow-suc 2 s))
 
   -- 2 to the exchanges of a push is at most the entries that there are then
-  pub push-swaps : (xs : List A) (x : A) → 2 ^ (push key d xs x .swaps) ≤ length xs + 1
+  push-swaps : (xs : List A) (x : A) → 2 ^ (push key d xs x .swaps) ≤ length xs + 1
   unfolding push
   push-swaps xs x = up-swaps (up-run key d (length xs) (xs ++ (x ∷ [])) (length xs) (omega arith))
 
   -- 2 to the exchanges of a removal is at most the entries that are left, where any are
-  pub remove-swaps : (xs : List A) (i : ℕ) → i < length xs → 1 < length xs → 2 ^ (removeAt key d xs i .swaps) ≤ length xs - 1
+  remove-swaps : (xs : List A) (i : ℕ) → i < length xs → 1 < length xs → 2 ^ (removeAt key d xs i .swaps) ≤ length xs - 1
   unfolding removeAt
   remove-swaps xs i h o =
       cond-ref (λ (r : Moved A). 2 ^ (r .swaps) ≤ length xs - 1) (ref-eq i (length xs - 1)) (λ e. omega arith)

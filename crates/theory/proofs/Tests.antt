@@ -1,11 +1,11 @@
 -- How to go between a Boolean test and the fact that it tells. A proof about `cond t x y` goes by `cond-ref`.
 -- Assumes nothing.
 use mathlib.Core.Path.{_≡_, refl, sym, _∙_}
-use mathlib.Core.Bool.{Bool, true, false, not, cond, _&&_, _||_, true≢false, false≢true, or-false, or-assoc}
+use mathlib.Core.Bool.{Bool, true, false, not, cond, _&&_, true≢false, false≢true}
 use mathlib.Core.Option.{Option, none, some, Option·none-ne-some}
 use Prim.Native.Nat.{ℕ, _≤_, _<_}
 use native.Mathlib.Omega.{arith}
-use lib.Dec.{T, ltb, leb, eqb}
+use lib.Dec.{ltb, leb, eqb}
 use borrow.Author.Tests.{ltb-true, ltb-false, leb-true, leb-false, eqb-true, eqb-false}
 use Rattle.theory.specs.Tests.{Ref, holds, fails, isYes}
 
@@ -59,16 +59,6 @@ pub by-ref {ℓ} : {G : Type ℓ} {Q : Type 0} {t : Bool} → Ref Q t → (Q →
 by-ref (holds q) f g = f q
 by-ref (fails n) f g = g n
 
--- the fact, where the test as a type has a proof
-pub ref-T : {P : Type 0} {t : Bool} → Ref P t → T t → P
-ref-T (holds p) h = p
-ref-T (fails n) h = absurd h
-
--- the test as a type, where the fact holds
-pub T-ref : {P : Type 0} {t : Bool} → Ref P t → P → T t
-T-ref (holds p) h = tt
-T-ref (fails n) h = n h
-
 -- the fact, where the test is true
 pub ref-true : {P : Type 0} {t : Bool} → Ref P t → t ≡ true → P
 ref-true (holds p) e = p
@@ -103,23 +93,9 @@ pub and-right : (a b : Bool) → (a && b) ≡ true → b ≡ true
 and-right true b h = h
 and-right false b h = absurd (false≢true h)
 
--- a `false` in the middle of three alternatives drops out
-pub or-three : (a b c : Bool) → a || (b || false) || c ≡ a || (b || c)
-or-three a b c = rw (or-false b) (or-assoc a b c)
-
 -- no option is both empty and filled
 pub none-some : {A : Type 0} {o : Option A} {a : A} → o ≡ none → o ≡ some a → ⊥
 none-some {a = a} p q = Option·none-ne-some a (sym p ∙ q)
-
--- a decision that came out as yes has its fact
-pub isYes-true {ℓ} : {P : Type ℓ} (c : Dec P) → isYes c ≡ true → P
-isYes-true (yes p) e = p
-isYes-true (no n) e = absurd (false≢true e)
-
--- a decision that came out as no refutes its fact
-pub isYes-false {ℓ} : {P : Type ℓ} (c : Dec P) → isYes c ≡ false → ¬ P
-isYes-false (yes p) e = absurd (true≢false e)
-isYes-false (no n) e = n
 
 -- what holds is decided as yes
 pub yes-isYes {ℓ} : {P : Type ℓ} (c : Dec P) → P → isYes c ≡ true

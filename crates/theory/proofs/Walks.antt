@@ -1,15 +1,15 @@
--- The functions `upFrom` and `downFrom` make the walks `Up` and `Down`; a walk has one end, keeps the length, and carries its entry.
+-- The functions `upFrom` and `downFrom` make the walks `Up` and `Down`; a walk up has one end, and both keep the length.
 -- Assumes nothing.
-use mathlib.Core.Path.{_≡_, refl, sym, ap, subst, _∙_}
+use mathlib.Core.Path.{_≡_, refl, ap, _∙_}
 use mathlib.Core.List.{List}
-use Prim.Native.Nat.{ℕ, zero, suc, _+_, _≤_, _<_}
+use Prim.Native.Nat.{ℕ, zero, suc, _+_, _≤_}
 use native.Mathlib.Omega.{arith}
-use lib.ListN.{length, getD}
+use lib.ListN.{length}
 use Rattle.theory.specs.Order.{parent}
 use Rattle.theory.specs.Heap.{Moved, at, swapAt, upFrom, child, downFrom}
 use Rattle.theory.specs.Walks.{Up, Down}
 use Rattle.theory.proofs.Tests.{ref-lt, cond-and}
-use Rattle.theory.proofs.Exchange.{length-swap, swap-right}
+use Rattle.theory.proofs.Exchange.{length-swap}
 use Rattle.theory.proofs.Child.{child-parent, child-least}
 
 module _ {A : Type 0} (key : A → ℕ) (d : A) where
@@ -38,19 +38,11 @@ module _ {A : Type 0} (key : A → ℕ) (d : A) where
       (λ h l. Down.stop {xs = xs} {i = i} (λ k p b e. omega (arith, child-least key d xs n i k p b e)))
 
   -- two walks up from the same place of the same list end alike
-  pub up-unique : {xs ys zs : List A} {i j k s t : ℕ} → Up key d xs i ys j s → Up key d xs i zs k t → (ys ≡ zs) × (j ≡ k) × (s ≡ t)
+  up-unique : {xs ys zs : List A} {i j k s t : ℕ} → Up key d xs i ys j s → Up key d xs i zs k t → (ys ≡ zs) × (j ≡ k) × (s ≡ t)
   up-unique (Up.stop a) (Up.stop b) = (refl, refl, refl)
   up-unique (Up.stop a) (Up.move p l r) = absurd (omega (arith, a p))
   up-unique (Up.move p l r) (Up.stop b) = absurd (omega (arith, b p))
   up-unique (Up.move p l r) (Up.move q m o) = let u = up-unique r o in (u .0, u .1, ap suc (u .2))
-
-  -- two walks down from the same place of the same list end alike
-  pub down-unique : {n : ℕ} {xs ys zs : List A} {i j k s t : ℕ} → Down key d n xs i ys j s → Down key d n xs i zs k t → (ys ≡ zs) × (j ≡ k) × (s ≡ t)
-  down-unique (Down.stop a) (Down.stop b) = (refl, refl, refl)
-  down-unique (Down.stop a) (Down.move c z p b q l m r) = absurd (omega (arith, a c p b q))
-  down-unique (Down.move c z p b q l m r) (Down.stop a) = absurd (omega (arith, a c p b q))
-  down-unique {n} {xs} {zs = zs} {i} {k = k} (Down.move c z p b q l m r) (Down.move {s = t} c′ z′ p′ b′ q′ l′ m′ r′) =
-      let u = down-unique r (subst (λ (x : ℕ). Down key d n (swapAt d xs i x) x zs k t) (z′ ∙ sym z) r′) in (u .0, u .1, ap suc (u .2))
 
   -- a walk up keeps the length
   pub up-length : {xs ys : List A} {i j s : ℕ} → Up key d xs i ys j s → length ys ≡ length xs
@@ -62,28 +54,8 @@ module _ {A : Type 0} (key : A → ℕ) (d : A) where
   down-length (Down.stop t) = refl
   down-length (Down.move {xs = xs} {i = i} c z p b q l m r) = down-length r ∙ length-swap d xs i c
 
-  -- a walk up ends no lower than it starts, and there stands the entry that it started with
-  pub up-place : {xs ys : List A} {i j s : ℕ} → Up key d xs i ys j s → i < length xs → (j ≤ i) × (getD ys j d ≡ getD xs i d)
-  up-place (Up.stop {i = i} t) h = (omega arith, refl)
-  up-place (Up.move {xs = xs} {i = i} p l r) h =
-      let u = up-place r (omega (arith, length-swap d xs i (parent i))) in
-      (omega arith, u .1 ∙ swap-right d xs i (parent i) h (omega arith) (omega arith))
-
-  -- a walk down ends no higher than it starts and below n, and there stands the entry that it started with
-  pub down-place : {n : ℕ} {xs ys : List A} {i j s : ℕ} → Down key d n xs i ys j s → n ≤ length xs → i < n → (i ≤ j) × (j < n) × (getD ys j d ≡ getD xs i d)
-  down-place (Down.stop {i = i} t) e h = (omega arith, h, refl)
-  down-place (Down.move {xs = xs} {i = i} c z p b q l m r) e h =
-      let u = down-place r (omega (arith, length-swap d xs i c)) b in
-      (omega arith, u .1, u .2 ∙ swap-right d xs i c (omega arith) (omega arith) (omega arith))
-
   -- two bounds that are both enough give the same walk up
   pub up-fuel : (f g : ℕ) (xs : List A) (i : ℕ) → i ≤ f → i ≤ g → upFrom key d f xs i ≡ upFrom key d g xs i
   up-fuel f g xs i a b =
       let u = up-unique (up-run f xs i a) (up-run g xs i b) in
-      λ t. record { list = u .0 t; place = u .1 t; swaps = u .2 t }
-
-  -- two bounds that are both enough give the same walk down
-  pub down-fuel : (f g : ℕ) (xs : List A) (n i : ℕ) → n ≤ f + i → n ≤ g + i → downFrom key d f xs n i ≡ downFrom key d g xs n i
-  down-fuel f g xs n i a b =
-      let u = down-unique (down-run f xs n i a) (down-run g xs n i b) in
       λ t. record { list = u .0 t; place = u .1 t; swaps = u .2 t }

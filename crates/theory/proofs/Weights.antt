@@ -35,19 +35,8 @@ module _ {A : Type 0} (P : A → Type 0) where
   all-places d [] h = tt
   all-places d (x ∷ xs) h = (h 0 (zero-lt-suc (length xs)), all-places d xs (λ i b. h (suc i) (omega arith)))
 
-  -- what all have, the entry at each place has
-  pub all-at : (d : A) (xs : List A) → All P xs → (i : ℕ) → i < length xs → P (getD xs i d)
-  all-at d [] a i h = absurd (omega arith)
-  all-at d (x ∷ xs) a zero h = a .0
-  all-at d (x ∷ xs) a (suc i) h = all-at d xs (a .1) i (omega arith)
-
-  -- what all of two lists have, all of the two in a row have
-  pub all-append : (xs ys : List A) → All P xs → All P ys → All P (xs ++ ys)
-  all-append [] ys a b = b
-  all-append (x ∷ xs) ys a b = (a .0, all-append xs ys (a .1) b)
-
   -- where only what has the property weighs 0, a list that weighs 0 has it throughout
-  pub all-zero : (w : A → ℕ) → ((x : A) → w x ≡ 0 → P x) → (xs : List A) → total w xs ≡ 0 → All P xs
+  all-zero : (w : A → ℕ) → ((x : A) → w x ≡ 0 → P x) → (xs : List A) → total w xs ≡ 0 → All P xs
   all-zero w f [] e = tt
   all-zero w f (x ∷ xs) e = (f x (omega arith), all-zero w f xs (omega arith))
 

@@ -1,7 +1,7 @@
 -- A binary heap on a list of any elements that have a key: the walks up and down, and what push, removal and popping do.
 -- Assumes nothing.
 use mathlib.Core.Path.{_≡_}
-use mathlib.Core.Bool.{Bool, true, cond, _&&_}
+use mathlib.Core.Bool.{cond, _&&_}
 use mathlib.Core.List.{List, [], _∷_, _++_}
 use Prim.Native.Nat.{ℕ, zero, suc, _+_, _-_, _*_}
 use lib.Dec.{ltb, leb, eqb}
@@ -78,15 +78,6 @@ module _ {A : Type 0} (key : A → ℕ) (d : A) where
       let v = downFrom n ys n i in
       let w = cond (ltb (at xs n) (at xs i)) u v in
       cond (eqb i n) (stay (take n xs) i) w
-
-  -- whether each of the first so many places is in order with its parent
-  unfoldable pub scan : List A → ℕ → Bool
-  scan xs zero = true
-  scan xs (suc k) = leb (at xs (parent k)) (at xs k) && scan xs k
-
-  -- whether the whole list is in heap order
-  unfoldable pub orderedb : List A → Bool
-  orderedb xs = scan xs (length xs)
 
 -- what was popped, in the order in which it came out, and the heap that is left
 pub record Popped (A : Type 0) : Type 0 where

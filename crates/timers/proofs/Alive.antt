@@ -91,7 +91,7 @@ live-place barred s h {w = w} {d = d} q e =
     go false z b c p e = absurd (not-both e)
 
 -- a number that a scan finds is one of those scanned
-pub first-in : (ok : ℕ → Bool) (n k i : ℕ) → firstBad ok n k ≡ some i → i < k + n
+first-in : (ok : ℕ → Bool) (n k i : ℕ) → firstBad ok n k ≡ some i → i < k + n
 unfolding firstBad
 first-in ok zero k i e = absurd (none-some refl e)
 first-in ok (suc n) k i e = go (ok k) e (first-in ok n (k + 1) i)

@@ -10,7 +10,7 @@ use lib.Bits.{bitAnd, bitOr, and-mask, and-high, or-add-and}
 use lib.Dec.{eqb}
 
 -- the lowest bit
-pub low : (w : ℕ) → bitAnd w 1 ≡ w % 2
+low : (w : ℕ) → bitAnd w 1 ≡ w % 2
 low w = and-mask w 1
 
 -- the bit above it, where it stands

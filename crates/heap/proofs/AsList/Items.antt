@@ -48,7 +48,7 @@ unfolding swapAt putAt
 swap-len h i j = refl
 
 -- and the room
-pub swap-long : (h : Heap) (i j : ℕ) → length (swapAt h i j .entries) ≡ length (h .entries)
+swap-long : (h : Heap) (i j : ℕ) → length (swapAt h i j .entries) ≡ length (h .entries)
 unfolding swapAt putAt
 swap-long h i j = simp length-set
 

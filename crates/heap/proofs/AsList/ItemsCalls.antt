@@ -23,17 +23,17 @@ use Rattle.heap.proofs.AsList.ItemsDown.{down-walked}
 
 module _ (h : Heap) (e : Entry) where
   -- one entry more
-  pub added-len : addedOf (takenOf h) e .len ≡ h .len + 1
+  added-len : addedOf (takenOf h) e .len ≡ h .len + 1
   unfolding addedOf takenOf putAt
   added-len = refl
 
   -- and the same room
-  pub added-long : length (addedOf (takenOf h) e .entries) ≡ length (h .entries)
+  added-long : length (addedOf (takenOf h) e .entries) ≡ length (h .entries)
   unfolding addedOf takenOf putAt
   added-long = length-set (h .entries) (h .len) e
 
   -- an entry that goes last is last in the list
-  pub items-added : h .len < length (h .entries) → items (addedOf (takenOf h) e) ≡ items h ++ (e ∷ [])
+  items-added : h .len < length (h .entries) → items (addedOf (takenOf h) e) ≡ items h ++ (e ∷ [])
   unfolding addedOf takenOf putAt
   items-added room = rw (add-one (h .len)) (take-suc-set (h .entries) (h .len) e room)
 
@@ -52,7 +52,7 @@ abbrev pub fillingOf : Heap → ℕ → Heap
 fillingOf h p = putAt (withLen h (h .len - 1)) p (entryAt h (h .len - 1))
 
 -- the same in the list
-pub items-fill : (h : Heap) (p : ℕ) → h .len ≤ length (h .entries) → p < h .len - 1 → items (fillingOf h p) ≡ T.fill noEntry (items h) p
+items-fill : (h : Heap) (p : ℕ) → h .len ≤ length (h .entries) → p < h .len - 1 → items (fillingOf h p) ≡ T.fill noEntry (items h) p
 unfolding T.fill
 items-fill h p fits inside =
     rw items-length
@@ -60,7 +60,7 @@ items-fill h p fits inside =
     ∙ (λ t. set (sym (take-take (h .len - 1) (h .len) (h .entries) (omega arith)) t) p (sym (items-at h (h .len - 1) (omega arith)) t)))
 
 -- filling a hole in the heap is a removal from the list
-pub fill-walked : (h : Heap) (p : ℕ) → h .len ≤ length (h .entries) → p < h .len
+fill-walked : (h : Heap) (p : ℕ) → h .len ≤ length (h .entries) → p < h .len
     → Walked (h .len - 1) (length (h .entries)) 0 (filledOf h p) (T.removeAt key noEntry (items h) p)
 unfolding filledOf T.removeAt
 fill-walked h p fits lt =

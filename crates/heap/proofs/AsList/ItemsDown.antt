@@ -20,7 +20,7 @@ pub data Choice (f : ℕ → ℕ) (n i p c : ℕ) : Type 0 where
   goes : p ≡ c → i < c → c < n → f c < f i → Choice f n i p c
 
 -- the five tests of the rules choose so: the right child is the least where it is there and less than the left one
-pub picked : (f : ℕ → ℕ) (n i : ℕ) {a b l r s : Bool} → Ref (2 * i + 1 < n) a → Ref (2 * i + 2 < n) b
+picked : (f : ℕ → ℕ) (n i : ℕ) {a b l r s : Bool} → Ref (2 * i + 1 < n) a → Ref (2 * i + 2 < n) b
     → Ref (f (2 * i + 1) < f i) l → Ref (f (2 * i + 2) < f (2 * i + 1)) r → Ref (f (2 * i + 2) < f i) s
     → Choice f n i (pickChild a b l r s i) (cond (b && r) (2 * i + 2) (2 * i + 1))
 picked f n i (fails a) (fails b) l r s = stays refl (λ p q. a p)
@@ -35,7 +35,7 @@ picked f n i (holds a) (holds b) (fails l) (fails r) (holds s) = absurd (omega a
 picked f n i (holds a) (holds b) (fails l) (fails r) (fails s) = stays refl (λ p q. l q)
 
 -- the least child in the list, by the tests of the rules
-pub child-list : (h : Heap) (i : ℕ)
+child-list : (h : Heap) (i : ℕ)
     → cond (ltb (2 * i + 2) (h .len) && before (entryAt h (2 * i + 2)) (entryAt h (2 * i + 1))) (2 * i + 2) (2 * i + 1) ≡ T.child key noEntry (items h) (h .len) i
 unfolding T.child
 child-list h i =
@@ -43,7 +43,7 @@ child-list h i =
     (and-same (ref-lt (2 * i + 2) (h .len)) (λ b. rw (items-at h (2 * i + 2) b, items-at h (2 * i + 1) (omega arith))))
 
 -- the rules go down to the child that the walk on the list takes, and where that one does not move, nowhere
-pub child-choice : (h : Heap) (i : ℕ) → Choice (λ k. key (entryAt h k)) (h .len) i (childOf h i) (T.child key noEntry (items h) (h .len) i)
+child-choice : (h : Heap) (i : ℕ) → Choice (λ k. key (entryAt h k)) (h .len) i (childOf h i) (T.child key noEntry (items h) (h .len) i)
 unfolding childOf
 child-choice h i =
     subst (λ (c : ℕ). Choice (λ k. key (entryAt h k)) (h .len) i (childOf h i) c) (child-list h i)

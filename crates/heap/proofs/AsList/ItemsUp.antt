@@ -15,7 +15,7 @@ use Rattle.heap.specs.Rules.{noEntry, items, key, swapAt, risesAt, upFro
 use Rattle.heap.proofs.AsList.Items.{items-at, items-swap, swap-len, Walked, walked-stay, walked-more, choose}
 
 -- an entry rises where it rises in the list
-pub rises-list : (h : Heap) (i : ℕ) → i < h .len
+rises-list : (h : Heap) (i : ℕ) → i < h .len
     → risesAt h i ≡ (ltb 0 i && ltb (T.at key noEntry (items h) i) (T.at key noEntry (items h) (parent i)))
 unfolding risesAt
 rises-list h i lt =

@@ -30,7 +30,7 @@ module _ (h : Heap) (fits : h .len ≤ length (h .entries)) where
       omega (arith, ap key (items-at h k a), ap key (items-at h (parent k) (omega arith)), ltb-false (key (entryAt h k)) (key (entryAt h (parent k))) (o k p a))
 
   -- a heap whose list is in order is in order
-  pub list-ordered : T.Ordered key noEntry (items h) → OrderedIn h
+  list-ordered : T.Ordered key noEntry (items h) → OrderedIn h
   list-ordered o k p b =
       le-ltb (key (entryAt h k)) (key (entryAt h (parent k)))
       (omega (arith, items-length h fits, ap key (items-at h k b), ap key (items-at h (parent k) (omega arith)), o k p (omega (arith, items-length h fits))))

@@ -27,11 +27,11 @@ use Rattle.heap.proofs.AsList.Ordered.{ordered-list}
 use Rattle.heap.proofs.Soundness.SoundKept.{pop-sound}
 
 -- a sound heap has room for its entries
-pub sound-fits : {h : Heap} → Sound h → h .len ≤ length (h .entries)
+sound-fits : {h : Heap} → Sound h → h .len ≤ length (h .entries)
 sound-fits s = omega arith
 
 -- a pop of a heap that is not empty leaves what the removal of the first from the list leaves
-pub pop-items : (h : Heap) → Sound h → 0 < h .len → items (popSound h .state) ≡ T.removeAt key noEntry (items h) 0 .list
+pop-items : (h : Heap) → Sound h → 0 < h .len → items (popSound h .state) ≡ T.removeAt key noEntry (items h) 0 .list
 pop-items h s p =
     ap (λ (o : Outcome Heap Off). items (o .state)) (pop-head h (sound-slab h s) p)
     ∙ remove-walked h (entryAt h 0 .slot) (record { 0 = 0 }) (sound-fits s) p .listed

@@ -1,7 +1,7 @@
 -- Two heaps that differ only in room not in use give the same answers, and go on differing only there: the test says the same of
 -- both (`consistent-in-use` of proofs/NotInUse/InUseTest.antt), and where it says yes the calls read in use only, and store alike.
 -- Assumes nothing.
-use mathlib.Core.Path.{_≡_, refl, _∙_, ap}
+use mathlib.Core.Path.{_≡_, refl, ap}
 use mathlib.Core.Option.{some}
 use Prim.Native.Nat.{ℕ, _<_}
 use native.Mathlib.Omega.{arith}
@@ -24,15 +24,11 @@ use Rattle.heap.specs.Calls.{guardOf, guarded, pushSound, removeBy, remo
 use Rattle.heap.proofs.Soundness.SoundFacts.{full-back}
 use Rattle.heap.proofs.Slots.Slab.{sound-slab}
 use Rattle.heap.proofs.Soundness.Guarding.{guarded-is}
-use Rattle.heap.proofs.Testing.Test.{sound-test, consistent-sound, sound-consistent}
+use Rattle.heap.proofs.Testing.Test.{sound-test}
 use Rattle.heap.proofs.NotInUse.InUseTest.{consistent-in-use}
 use Rattle.heap.proofs.NotInUse.InUseWalks.{choose-ref, pushed-in-use, removed-in-use}
 
 module _ (g h : Heap) (r : Twins g h) where
-  -- where one is sound the other is
-  pub sound-in-use : Sound h → Sound g
-  sound-in-use s = consistent-sound g (r .left .entries-long) (r .left .slots-long) (consistent-in-use g h (r .same) ∙ sound-consistent h s)
-
   -- a refusal leaves both as they were
   kept-in-use : {A : Type 0} (n : ℕ) → SameOutcome (kept {A = A} g n) (kept h n)
   kept-in-use n = record { answers = refl; states = r }

@@ -37,7 +37,7 @@ module _ (g h : Heap) (r : Twins g h) where
   slots-even = r .left .slots-long ∙ sym (r .right .slots-long)
 
   -- an entry is put anywhere, with n entries and m slots and f as the free head from then on: what more is in use is what is stored
-  pub put-grown : (n m : ℕ) (f : Slot) (i : ℕ) (e : Entry) → ((k : ℕ) → (k ≡ i → ⊥) → k < n → k < h .len)
+  put-grown : (n m : ℕ) (f : Slot) (i : ℕ) (e : Entry) → ((k : ℕ) → (k ≡ i → ⊥) → k < n → k < h .len)
       → ((s : ℕ) → (s ≡ e .slot .0 → ⊥) → s < m → s < h .made)
       → Twins (putAt (record { entries = g .entries; len = n; slots = g .slots; made = m; free = f }) i e)
       (putAt (record { entries = h .entries; len = n; slots = h .slots; made = m; free = f }) i e)
@@ -55,7 +55,7 @@ module _ (g h : Heap) (r : Twins g h) where
   }
 
   -- the counts and the free head of one are those of the other
-  pub as-counted : g ≡ record { entries = g .entries; len = h .len; slots = g .slots; made = h .made; free = h .free }
+  as-counted : g ≡ record { entries = g .entries; len = h .len; slots = g .slots; made = h .made; free = h .free }
   as-counted = λ t. record { entries = g .entries; len = r .same .same-len t; slots = g .slots; made = r .same .same-made t; free = r .same .same-free t }
 
   -- the same entry is put at the same position

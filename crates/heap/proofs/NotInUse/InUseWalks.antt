@@ -66,7 +66,7 @@ module _ (g h : Heap) (r : Twins g h) (i : ℕ) (b : i < h .len) where
       (λ e. before-same (2 * i + 2) i (ltb-true _ _ e) b)
 
 -- the way up
-pub up-in-use : (k : ℕ) (g h : Heap) (i n : ℕ) → Twins g h → i < h .len → SameMoved (upFrom k g i n) (upFrom k h i n)
+up-in-use : (k : ℕ) (g h : Heap) (i n : ℕ) → Twins g h → i < h .len → SameMoved (upFrom k g i n) (upFrom k h i n)
 unfolding upFrom
 up-in-use zero g h i n r b = record { heaps = r; same-swaps = refl }
 up-in-use (suc k) g h i n r b =
@@ -77,7 +77,7 @@ up-in-use (suc k) g h i n r b =
     (record { heaps = r; same-swaps = refl }))
 
 -- the way down
-pub down-in-use : (k : ℕ) (g h : Heap) (i n : ℕ) → Twins g h → i < h .len → SameMoved (downFrom k g i n) (downFrom k h i n)
+down-in-use : (k : ℕ) (g h : Heap) (i n : ℕ) → Twins g h → i < h .len → SameMoved (downFrom k g i n) (downFrom k h i n)
 unfolding downFrom
 down-in-use zero g h i n r b = record { heaps = r; same-swaps = refl }
 down-in-use (suc k) g h i n r b =

@@ -8,7 +8,7 @@ use mathlib.Core.Option.{none, some}
 use Prim.Native.Nat.{ℕ, _-_, _<_}
 use native.Mathlib.Omega.{arith}
 use lib.Dec.{ltb}
-use borrow.Author.Tests.{lt-ltb, le-ltb, eq-eqb, ltb-true}
+use borrow.Author.Tests.{lt-ltb, le-ltb, ltb-true}
 use Rattle.theory.proofs.Tests.{by-ref, ref-eq, ref-lt, is-false}
 use Rattle.refusals.specs.declared.Refusal.the-variants.{VacantSlot}
 use Rattle.refusals.specs.Numbers.{numberOf}
@@ -25,7 +25,7 @@ use Rattle.heap.specs.Rules.{entryAt, stateAt, slotAt, putAt, withLen, a
 use Rattle.heap.specs.Faults.{fullAt}
 use Rattle.heap.specs.Lookup.{standing, lookup}
 use Rattle.heap.specs.Slab.{Slab}
-use Rattle.heap.specs.Calls.{freshOf, removeBy, removeSound, popSound}
+use Rattle.heap.specs.Calls.{removeBy, removeSound, popSound}
 use Rattle.heap.proofs.Slots.Slab.{not-full-at}
 use Rattle.heap.proofs.Walking.Steps.{moveLast, push-by, remove-by}
 use Rattle.heap.proofs.Slots.FreeHead.{free-view}
@@ -40,10 +40,6 @@ below-same k m n f g =
     by-ref (ref-lt k n)
     (λ b. lt-ltb k m (g b) ∙ sym (lt-ltb k n b))
     (λ b. is-false (ltb k m) (λ e. b (f (ltb-true k m e))) ∙ sym (is-false (ltb k n) (λ e. b (ltb-true k n e))))
-
--- in the empty heap nothing stands in any slot
-pub fresh-none : (k : ℕ) → lookup freshOf k ≡ none
-fresh-none k = lookup-none freshOf k (ap (λ (b : Bool). b && fullAt freshOf k) (le-ltb k 0 (omega arith)))
 
 module _ (h : Heap) (s : Slab h) where
   -- before a push nothing stands in the free head
@@ -88,10 +84,6 @@ module _ (h : Heap) (s : Slab h) where
 
 -- the slot t is full with the position p
 module _ (h : Heap) (s : Slab h) (t : Slot) (p : Pos) (b : t .0 < h .made) (full : stateAt h (t .0) ≡ Full p) where
-  -- before its removal the entry at p stands in t
-  pub remove-was : lookup h (t .0) ≡ some (entryAt h (p .0))
-  remove-was = lookup-full h (t .0) p b full
-
   gone-unused : (g : Heap) → fullAt g (t .0) ≡ fullAt (vacatedOf h t) (t .0) → lookup g (t .0) ≡ none
   gone-unused g e =
       lookup-none g (t .0)
@@ -139,11 +131,6 @@ module _ (h : Heap) (s : Slab h) (b : 0 < h .len) where
   -- every other slot keeps its entry
   pub pop-other : (k : ℕ) → (k ≡ slotAt h 0 → ⊥) → lookup (popSound h .state) k ≡ lookup h k
   pop-other k n = rw (pop-head h s b) (remove-other h s (entryAt h 0 .slot) (record { 0 = 0 }) (s .forth 0 b .0) (s .forth 0 b .1) k n)
-
--- the pop of an empty heap changes nothing
-pub pop-empty : (h : Heap) → h .len ≡ 0 → popSound h ≡ record { state = h; answer = accepted none }
-unfolding popSound
-pop-empty h e = rw (eq-eqb (h .len) 0 e)
 
 -- a slot in which nothing stands is refused
 pub remove-vacant : (h : Heap) (t : Slot) → lookup h (t .0) ≡ none → removeSound h t ≡ kept h (numberOf VacantSlot)

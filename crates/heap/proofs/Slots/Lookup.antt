@@ -1,4 +1,4 @@
--- What stands in each slot, and that no swap and no walk changes it: each entry takes its slot along.
+-- What stands in each slot, and that no swap changes it: each entry takes its slot along.
 -- Assumes nothing.
 use mathlib.Core.Path.{_≡_, refl, sym, _∙_, ap, ap₂}
 use mathlib.Core.Bool.{Bool, true, false, cond, _&&_}
@@ -13,7 +13,7 @@ use Rattle.heap.specs.declared.Entry.{Entry}
 use Rattle.heap.specs.declared.SlotState.{SlotState}
 use Rattle.heap.specs.declared.SlotState.the-variants.{Full, Empty}
 use Rattle.heap.specs.declared.Heap.{Heap}
-use Rattle.heap.specs.Rules.{entryAt, stateAt, slotAt, swapAt, upFrom, downFrom}
+use Rattle.heap.specs.Rules.{entryAt, stateAt, slotAt, swapAt}
 use Rattle.heap.specs.Faults.{isFull, fullAt}
 use Rattle.heap.specs.Lookup.{standing, lookup, usedAt}
 use Rattle.heap.specs.Slab.{Slab}
@@ -21,7 +21,7 @@ use Rattle.heap.proofs.Slots.Slab.{back, full-pos}
 use Rattle.heap.proofs.Slots.Spare.{Alike}
 use Rattle.heap.proofs.Walking.Laws.{len-swap}
 use Rattle.heap.proofs.Slots.Swap.{swap-alike, swap-left, swap-right, swap-other, slab-swap}
-use Rattle.heap.proofs.Walking.Steps.{Swaps, up-by, down-by}
+use Rattle.heap.proofs.Walking.Steps.{Swaps}
 
 -- in a slot that is not in use there is nothing
 pub lookup-none : (h : Heap) (k : ℕ) → usedAt h k ≡ false → lookup h k ≡ none
@@ -59,7 +59,7 @@ module _ (h : Heap) (s : Slab h) where
   lookup-head b = lookup-at 0 b
 
   -- a slot in use is that of some position
-  pub used-pos : (k : ℕ) → usedAt h k ≡ true → (p : ℕ) × (p < h .len) × (slotAt h p ≡ k)
+  used-pos : (k : ℕ) → usedAt h k ≡ true → (p : ℕ) × (p < h .len) × (slotAt h p ≡ k)
   unfolding fullAt
   used-pos k e =
       let q = full-pos (stateAt h k) (and-right (ltb k (h .made)) (fullAt h k) e) in
@@ -88,11 +88,11 @@ lookup-kept h g s r k u c = go (usedAt h k) refl
         ap (lookup g) (sym o) ∙ lookup-at g r (q .0) (q .1) ∙ ap some (q .2) ∙ sym (lookup-at h s (p .0) (p .1)) ∙ ap (lookup h) (p .2)
 
 -- the same slots are in use
-pub alike-used : (h g : Heap) → Alike h g → (k : ℕ) → usedAt g k ≡ usedAt h k
+alike-used : (h g : Heap) → Alike h g → (k : ℕ) → usedAt g k ≡ usedAt h k
 alike-used h g a k = ap₂ (λ (m : ℕ) (f : Bool). ltb k m && f) (a .made) (a .full k)
 
 -- a swap changes no slot's entry
-pub lookup-swap : (h : Heap) → Slab h → (i j : ℕ) → i < h .len → j < h .len → (k : ℕ) → lookup (swapAt h i j) k ≡ lookup h k
+lookup-swap : (h : Heap) → Slab h → (i j : ℕ) → i < h .len → j < h .len → (k : ℕ) → lookup (swapAt h i j) k ≡ lookup h k
 unfolding swapAt
 lookup-swap h s i j a b k =
     lookup-kept h (swapAt h i j) s (slab-swap h s i j a b) k (alike-used h (swapAt h i j) (swap-alike h s i j a b) k)
@@ -113,12 +113,3 @@ swaps-hold k o g i j r a b = record {
   slab = slab-swap g (r .slab) i j a b;
   at-slot = lookup-swap g (r .slab) i j a b k ∙ r .at-slot;
 }
-
-module _ (h : Heap) (s : Slab h) (f i n : ℕ) (b : i < h .len) (k : ℕ) where
-  -- the walk up changes no slot's entry
-  pub lookup-up : lookup (upFrom f h i n .heap) k ≡ lookup h k
-  lookup-up = up-by (Holds k (lookup h k)) (swaps-hold k (lookup h k)) f h i n (record { slab = s; at-slot = refl }) b .at-slot
-
-  -- nor does the walk down
-  pub lookup-down : lookup (downFrom f h i n .heap) k ≡ lookup h k
-  lookup-down = down-by (Holds k (lookup h k)) (swaps-hold k (lookup h k)) f h i n (record { slab = s; at-slot = refl }) b .at-slot

@@ -52,7 +52,7 @@ module _ (h : Heap) (s : Slab h) (at g : ℕ) (place : Place) (room : h .len < c
   grown-slot b = state-same wide (h .len) (newEntry h at g place) (omega (arith, s .slots-long))
 
   -- no other slot changes
-  pub grown-state : (k : ℕ) → (k ≡ h .free .0 → ⊥) → stateAt grown k ≡ stateAt h k
+  grown-state : (k : ℕ) → (k ≡ h .free .0 → ⊥) → stateAt grown k ≡ stateAt h k
   unfolding addedOf
   grown-state k n = state-other wide (h .len) (newEntry h at g place) k n
 

@@ -37,7 +37,7 @@ module _ (h : Heap) (s : Slab h) (t : Slot) (p : Pos) (b : t .0 < h .made) (full
   own = back h s (t .0) p b full .1
 
   -- no other entry has it
-  pub not-own : (q : ℕ) → q < h .len → (q ≡ p .0 → ⊥) → slotAt h q ≡ t .0 → ⊥
+  not-own : (q : ℕ) → q < h .len → (q ≡ p .0 → ⊥) → slotAt h q ≡ t .0 → ⊥
   not-own q c f e = slot-apart h s q (p .0) c here f (e ∙ sym own)
 
   abbrev gone : Heap
@@ -49,7 +49,7 @@ module _ (h : Heap) (s : Slab h) (t : Slot) (p : Pos) (b : t .0 < h .made) (full
   gone-state = ap (λ (y : SlabSlot). y .state) (getD-set-same (h .slots) (t .0) _ noSlot (omega (arith, s .slots-long, s .made-in)))
 
   -- no other slot changes
-  pub gone-stays : (k : ℕ) → (k ≡ t .0 → ⊥) → stateAt gone k ≡ stateAt h k
+  gone-stays : (k : ℕ) → (k ≡ t .0 → ⊥) → stateAt gone k ≡ stateAt h k
   unfolding vacatedOf
   gone-stays k f = ap (λ (y : SlabSlot). y .state) (getD-set-other (h .slots) (t .0) k _ noSlot f)
 

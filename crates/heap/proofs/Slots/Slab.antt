@@ -51,7 +51,7 @@ pub not-full : {x : SlotState} {n : Slot} {p : Pos} → x ≡ Empty n → x ≡ 
 not-full e f = let z : _≡_ {A = ℕ} 0 1 = cc in omega arith
 
 -- a full slot names one position
-pub full-same : {x : SlotState} {p q : Pos} → x ≡ Full p → x ≡ Full q → p ≡ q
+full-same : {x : SlotState} {p q : Pos} → x ≡ Full p → x ≡ Full q → p ≡ q
 full-same e f = cc
 
 -- a slot that passes for full is full with some position

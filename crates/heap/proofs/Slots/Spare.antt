@@ -80,7 +80,7 @@ alike-spare h g n a s = record {
 }
 
 -- a full slot is on no chain
-pub full-next : (h : Heap) (k : ℕ) → fullAt h k ≡ true → nextAt h k ≡ none
+full-next : (h : Heap) (k : ℕ) → fullAt h k ≡ true → nextAt h k ≡ none
 unfolding fullAt nextAt
 full-next h k e = ap (linkOf (h .made)) (full-pos (stateAt h k) e .1)
 

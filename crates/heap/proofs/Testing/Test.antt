@@ -13,7 +13,7 @@ use Rattle.theory.specs.Order.{parent}
 use Rattle.theory.specs.Counting.{count}
 use Rattle.theory.specs.Chain.{unless, chainOkb, noFault, faultAt}
 use Rattle.theory.specs.First.{firstBad}
-use Rattle.theory.proofs.Tests.{ref-by, ref-le, ref-eq, ref-and, ref-map, ref-true, true-ref, true-false, none-some, and-left, and-right}
+use Rattle.theory.proofs.Tests.{ref-by, ref-le, ref-eq, ref-and, ref-map, ref-true, true-false, none-some, and-left, and-right}
 use Rattle.theory.proofs.First.{none-all, all-none}
 use Rattle.theory.proofs.ChainFault.{fault-walk}
 use Rattle.heap.specs.Capacity.{cap}
@@ -145,7 +145,3 @@ module _ (h : Heap) where
   -- a heap of which the test says yes is sound
   pub consistent-sound : length (h .entries) ≡ cap → length (h .slots) ≡ cap → consistentOf h ≡ true → Sound h
   consistent-sound n m e = ref-true (sound-test n m) e
-
-  -- of a sound heap the test says yes
-  pub sound-consistent : Sound h → consistentOf h ≡ true
-  sound-consistent s = true-ref (sound-test (s .entries-long) (s .slots-long)) s

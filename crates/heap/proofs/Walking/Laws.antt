@@ -60,7 +60,7 @@ unfolding addedOf putAt
 len-added h e = refl
 
 -- a store of an entry whose slot is in the slab keeps the slots in it
-pub slots-in-put : (h : Heap) (i : ℕ) (e : Entry) → e .slot .0 < cap → SlotsIn h → SlotsIn (putAt h i e)
+slots-in-put : (h : Heap) (i : ℕ) (e : Entry) → e .slot .0 < cap → SlotsIn h → SlotsIn (putAt h i e)
 unfolding putAt
 slots-in-put h i e p r =
     record { len-in = r .len-in; slots-in = λ k b. set-either (λ (x : Entry). x .slot .0 < cap) (h .entries) i k e noEntry p (r .slots-in k b) }
@@ -71,7 +71,7 @@ unfolding swapAt
 slots-in-swap h i j p q r = slots-in-put _ _ _ (r .slots-in i p) (slots-in-put _ _ _ (r .slots-in j q) r)
 
 -- so does a heap of fewer entries
-pub slots-in-short : (h : Heap) (n : ℕ) → n ≤ h .len → SlotsIn h → SlotsIn (withLen h n)
+slots-in-short : (h : Heap) (n : ℕ) → n ≤ h .len → SlotsIn h → SlotsIn (withLen h n)
 slots-in-short h n p r = record { len-in = omega arith; slots-in = λ k b. r .slots-in k (omega arith) }
 
 -- so does emptying a slot
@@ -113,12 +113,6 @@ rises-is h i p = let n : i ≢ 0 = omega arith in rw (ne-eqb i 0 n)
 pub top-stays : (h : Heap) (i : ℕ) → i ≡ 0 → risesAt h i ≡ false
 unfolding risesAt
 top-stays h i p = rw p
-
--- an entry that rises is not at the head
-pub rises-pos : (h : Heap) (i : ℕ) → risesAt h i ≡ true → 0 < i
-unfolding risesAt
-rises-pos h zero p = let z : _≡_ {A = ℕ} 0 1 = cc in omega arith
-rises-pos h (suc i) p = omega arith
 
 -- an entry that does not rise is at the end of its way up
 pub up-stop : (k : ℕ) (h : Heap) (i n : ℕ) → risesAt h i ≡ false → upFrom k h i n ≡ moved h i n

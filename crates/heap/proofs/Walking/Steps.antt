@@ -31,7 +31,7 @@ module _ (P : Heap → Type 0) where
 
   module _ (w : Swaps P) where
     -- the way up
-    pub up-by : (k : ℕ) (h : Heap) (i n : ℕ) → P h → i < h .len → P (upFrom k h i n .heap)
+    up-by : (k : ℕ) (h : Heap) (i n : ℕ) → P h → i < h .len → P (upFrom k h i n .heap)
     unfolding upFrom
     up-by zero h i n p b = p
     up-by (suc k) h i n p b =
@@ -41,7 +41,7 @@ module _ (P : Heap → Type 0) where
         (λ _. p)
 
     -- the way down
-    pub down-by : (k : ℕ) (h : Heap) (i n : ℕ) → P h → i < h .len → P (downFrom k h i n .heap)
+    down-by : (k : ℕ) (h : Heap) (i n : ℕ) → P h → i < h .len → P (downFrom k h i n .heap)
     unfolding downFrom
     down-by zero h i n p b = p
     down-by (suc k) h i n p b =

@@ -40,7 +40,7 @@ module _ {S : Type 0} (P : Outcome S Value → Type 0) (s : Set) (k : S) (no : (
       go false e = no _
 
   -- behind both tests
-  pub open-by : (o : Outcome S Value) → (LetIn s → P o) → P (guarded s k (opened s k o))
+  open-by : (o : Outcome S Value) → (LetIn s → P o) → P (guarded s k (opened s k o))
   open-by o f = sound-by (opened s k o) (λ q. go (s .closed) refl q)
     where
       go : (b : Bool) → s .closed ≡ b → soundOf s ≡ true → P (cond b (refusing k Closed) o)

@@ -68,22 +68,22 @@ module _ (P : Set → Type 0) (s : Set) (k : Kept P s) where
   added-keeps d c (some p) e = k .adds p d c e
 
   -- add
-  pub add-keeps-it : (d : ℕ) → P (addOf s d .state)
+  add-keeps-it : (d : ℕ) → P (addOf s d .state)
   unfolding addOf
   add-keeps-it d = guarded-keeps P s s (k .now) (addedAt s d (lowestFree s)) (λ c. added-keeps d c (lowestFree s) refl)
 
   -- reset
-  pub reset-keeps-it : (h : Handle) (d : ℕ) → P (resetOf s h d .state)
+  reset-keeps-it : (h : Handle) (d : ℕ) → P (resetOf s h d .state)
   unfolding resetOf
   reset-keeps-it h d = live-keeps h (λ t. gives (resetTo s h d t) nothing) (λ t c e. k .resets h t d c e)
 
   -- cancel
-  pub cancel-keeps-it : (h : Handle) → P (cancelOf s h .state)
+  cancel-keeps-it : (h : Handle) → P (cancelOf s h .state)
   unfolding cancelOf
   cancel-keeps-it h = live-keeps h (λ t. gives (touchedOf s (h .place .0) (Cancelled (t .word))) nothing) (λ t c e. k .cancels h t c e)
 
   -- drain
-  pub drain-keeps-it : (s .closed ≡ false → P (drainedOf s)) → P (drainOf s .state)
+  drain-keeps-it : (s .closed ≡ false → P (drainedOf s)) → P (drainOf s .state)
   unfolding drainOf
   drain-keeps-it f = guarded-keeps P s s (k .now) (gives (drainedOf s) nothing) f
 
@@ -94,7 +94,7 @@ module _ (P : Set → Type 0) (s : Set) (k : Kept P s) where
   ticked-keeps h t f false a = k .now
 
   -- tick
-  pub tick-keeps-it : (h : Handle) (p : Policy) (period N : ℕ) → P (tickAt s h p period N .state)
+  tick-keeps-it : (h : Handle) (p : Policy) (period N : ℕ) → P (tickAt s h p period N .state)
   unfolding tickAt
   tick-keeps-it h p period N =
       live-keeps h (ticked s h p period N)
@@ -105,14 +105,14 @@ module _ (P : Set → Type 0) (s : Set) (k : Kept P s) where
   restarted-keeps h t f (refused n) = k .now
 
   -- interval reset
-  pub restart-keeps-it : (h : Handle) (period N : ℕ) → P (restartAt s h period N .state)
+  restart-keeps-it : (h : Handle) (period N : ℕ) → P (restartAt s h period N .state)
   unfolding restartAt
   restart-keeps-it h period N =
       live-keeps h (λ t. restartedBy s h t (restartOf period N))
       (λ t c e. restarted-keeps h t (λ d. k .resets h t d c e) (restartOf period N))
 
   -- next wake
-  pub wake-keeps-it : P (nextWakeOf s .state)
+  wake-keeps-it : P (nextWakeOf s .state)
   unfolding nextWakeOf guarded
   wake-keeps-it = go (soundOf s)
     where
@@ -121,7 +121,7 @@ module _ (P : Set → Type 0) (s : Set) (k : Kept P s) where
       go false = k .now
 
   -- poll
-  pub poll-keeps-it : (h : Handle) → P (pollOf s h .state)
+  poll-keeps-it : (h : Handle) → P (pollOf s h .state)
   unfolding pollOf guarded
   poll-keeps-it h = go (soundOf s)
     where
@@ -138,21 +138,21 @@ module _ (P : Set → Type 0) (s : Set) (k : Kept P s) where
         go false = k .now
 
     -- advance
-    pub advance-keeps-it : (N : ℕ) (l : List ℕ) → P (advanceOf s N l .state .set)
+    advance-keeps-it : (N : ℕ) (l : List ℕ) → P (advanceOf s N l .state .set)
     unfolding advanceOf
     advance-keeps-it N l =
         guarded-keeps (λ (x : Lent). P (x .set)) s (lent s l) (k .now) (roomy s l (rang (advancedOf s N l)))
         (λ c. roomy-keeps l (rang (advancedOf s N l)) (on .advances N l c))
 
     -- turn
-    pub turn-keeps-it : (N : ℕ) (l : List ℕ) → P (turnOf s N l .state .set)
+    turn-keeps-it : (N : ℕ) (l : List ℕ) → P (turnOf s N l .state .set)
     unfolding turnOf
     turn-keeps-it N l =
         guarded-keeps (λ (x : Lent). P (x .set)) s (lent s l) (k .now) (roomy s l (rang (advancedOf (drainedOf s) N l)))
         (λ c. roomy-keeps l (rang (advancedOf (drainedOf s) N l)) (on .turns N l c))
 
     -- close
-    pub close-keeps-it : P (closeOf s .state)
+    close-keeps-it : P (closeOf s .state)
     unfolding closeOf
     close-keeps-it = guarded-keeps P s s (k .now) (gives (closedOf s) nothing) (on .closes)
 

@@ -39,7 +39,7 @@ module _ (s : Set) (p : ℕ) (l : Life) where
       (ap (λ (t : Timer). t .uses) (getD-set-same (s .timers) p _ noTimer m), ap (λ (t : Timer). t .life) (getD-set-same (s .timers) p _ noTimer m))
 
   -- its handle names what the new life says
-  pub touched-names : (h : Handle) → length (s .timers) ≡ cap → p < cap → h .place .0 ≡ p → timerAt s p .uses ≡ h .uses
+  touched-names : (h : Handle) → length (s .timers) ≡ cap → p < cap → h .place .0 ≡ p → timerAt s p .uses ≡ h .uses
       → liveAt (touchedOf s p l) h ≡ timingOf l
   touched-names h n b e u =
       let t = touched-here n b in
@@ -50,7 +50,7 @@ module _ (s : Set) (p : ℕ) (l : Life) where
       ∙ ap timingOf (t .1)
 
   -- every other handle names what it named
-  pub touched-others : (k : Handle) → (k .place .0 ≡ p → timerAt s p .uses ≡ k .uses → ⊥) → liveAt (touchedOf s p l) k ≡ liveAt s k
+  touched-others : (k : Handle) → (k .place .0 ≡ p → timerAt s p .uses ≡ k .uses → ⊥) → liveAt (touchedOf s p l) k ≡ liveAt s k
   unfolding touchedOf
   touched-others k n =
       live-rel (λ a b. b ≡ a) refl s (touchedOf s p l) k
@@ -92,7 +92,7 @@ abbrev pub Names : Timer → Timer → Type 0
 Names t r = (u : ℕ) → names r u ≡ names t u
 
 -- this is such a relation of timers as the walks ask for
-pub names-order : Order Names
+names-order : Order Names
 unfolding names
 names-order = record { blind = λ t r l e u. cc; then = λ x y z a b u. b u ∙ a u }
 

@@ -30,7 +30,7 @@ use Rattle.laws.proofs.Handles.ByHandleCalls.{add-lives}
 -- ONE CALL
 
 -- after any call each place is later
-pub step-later : (s : Set) (c : Call) (l : List ℕ) → Each Later s (stepped s c l)
+step-later : (s : Set) (c : Call) (l : List ℕ) → Each Later s (stepped s c l)
 step-later s =
     step-keeps-it (Each Later s) s
     (record {
@@ -51,38 +51,38 @@ pub uses-rise : (s : Set) (c : Call) (l : List ℕ) (p : ℕ) → timerAt s p .u
 uses-rise s c l p = step-later s c l p .rises
 
 -- a handle that was given out is so after any call
-pub given-stays : (s : Set) (c : Call) (l : List ℕ) (h : Handle) → Given s h → Given (stepped s c l) h
+given-stays : (s : Set) (c : Call) (l : List ℕ) (h : Handle) → Given s h → Given (stepped s c l) h
 given-stays s c l h = step-later s c l (h .place .0) .given (h .uses)
 
 -- and one that is past is so
-pub past-stays : (s : Set) (c : Call) (l : List ℕ) (h : Handle) → Past s h → Past (stepped s c l) h
+past-stays : (s : Set) (c : Call) (l : List ℕ) (h : Handle) → Past s h → Past (stepped s c l) h
 past-stays s c l h = step-later s c l (h .place .0) .over (h .uses)
 
 module _ (s : Set) where
   -- an add's handle was not given out before
-  pub add-new : (d : ℕ) (h : Handle) → addOf s d .answer ≡ accepted (handle h) → Given s h → ⊥
+  add-new : (d : ℕ) (h : Handle) → addOf s d .answer ≡ accepted (handle h) → Given s h → ⊥
   add-new d h =
       add-by (λ o. o .answer ≡ accepted (handle h) → Given s h → ⊥) s (λ m e. absurd (not-both (sym e))) d
       (λ _ p f e g. let q : handleAt s p ≡ h = cc in added-new s p f (subst (Given s) (sym q) g))
 
   -- and is so afterwards
-  pub add-given : (d : ℕ) (h : Handle) → length (s .timers) ≡ cap → addOf s d .answer ≡ accepted (handle h) → Given (addOf s d .state) h
+  add-given : (d : ℕ) (h : Handle) → length (s .timers) ≡ cap → addOf s d .answer ≡ accepted (handle h) → Given (addOf s d .state) h
   add-given d h n e = live-given (addOf s d .state) h _ (add-lives s d h n e .1)
 
   -- a cancel's handle is past afterwards
-  pub cancel-past : (h : Handle) (v : Value) → length (s .timers) ≡ cap → cancelOf s h .answer ≡ accepted v → Past (cancelOf s h .state) h
+  cancel-past : (h : Handle) (v : Value) → length (s .timers) ≡ cap → cancelOf s h .answer ≡ accepted v → Past (cancelOf s h .state) h
   cancel-past h v n =
       cancel-by (λ o. o .answer ≡ accepted v → Past (o .state) h) s (λ m e. absurd (not-both (sym e))) h (λ _ t l _. cancelled-past s h t n l)
 
 -- ANY NUMBER OF CALLS
 
 -- a handle that was given out is so after any calls
-pub after-given : (cs : List (Call × List ℕ)) (s : Set) (h : Handle) → Given s h → Given (after cs s) h
+after-given : (cs : List (Call × List ℕ)) (s : Set) (h : Handle) → Given s h → Given (after cs s) h
 after-given [] s h g = g
 after-given (c ∷ cs) s h g = after-given cs (stepped s (c .0) (c .1)) h (given-stays s (c .0) (c .1) h g)
 
 -- a handle that is past is so after any calls
-pub after-past : (cs : List (Call × List ℕ)) (s : Set) (h : Handle) → Past s h → Past (after cs s) h
+after-past : (cs : List (Call × List ℕ)) (s : Set) (h : Handle) → Past s h → Past (after cs s) h
 after-past [] s h g = g
 after-past (c ∷ cs) s h g = after-past cs (stepped s (c .0) (c .1)) h (past-stays s (c .0) (c .1) h g)
 

@@ -35,7 +35,7 @@ reached-life : (f : Life → Bool) (t r : Timer) → r .uses ≡ t .uses → (f 
 reached-life f t r e i u = ⊎-elim (λ b. inl (omega arith)) (λ q. inr (q .0 ∙ sym e, i (q .1)))
 
 -- a timer that keeps its use number is later where it is not free if it was not, and over if it was
-pub later-life : (t r : Timer) → r .uses ≡ t .uses → (isTaken (t .life) ≡ true → isTaken (r .life) ≡ true)
+later-life : (t r : Timer) → r .uses ≡ t .uses → (isTaken (t .life) ≡ true → isTaken (r .life) ≡ true)
     → (isOver (t .life) ≡ true → isOver (r .life) ≡ true) → Later t r
 later-life t r e f g = record { rises = omega arith; given = reached-life isTaken t r e f; over = reached-life isOver t r e g }
 

@@ -5,11 +5,11 @@ use mathlib.Core.Path.{_≡_, refl, _∙_, ap, subst}
 use mathlib.Core.Logic.{inl, inr, ⊎-elim}
 use mathlib.Core.Bool.{Bool, true, false, cond}
 use mathlib.Core.Option.{Option, none, some}
-use Prim.Native.Nat.{ℕ, _*_, _/_, _%_}
+use Prim.Native.Nat.{ℕ, _*_, _%_}
 use native.Mathlib.Omega.{arith}
 use lib.Dec.{eqb}
 use Rattle.theory.proofs.Tests.{none-some, cond-ref, ref-eq}
-use Rattle.word.specs.Rules.{generationOf, invalidIn, firedIn, invalidOf}
+use Rattle.word.specs.Rules.{firedIn, invalidOf}
 use Rattle.state.specs.declared.Life.{Life}
 use Rattle.state.specs.declared.Life.the-variants.{Free, Live, Cancelled, Retired}
 use Rattle.state.specs.declared.Waiting.{Waiting}
@@ -21,18 +21,6 @@ use Rattle.timers.specs.Calls.{Timing, timingOf}
 use Rattle.laws.specs.ByHandle.{Same, Fires, Marks, Still}
 use Rattle.laws.proofs.Handles.Naming.{names}
 use Rattle.laws.proofs.PlaceByPlace.Places.{Order}
-
--- a firing keeps the generation
-pub fires-generation : (w v : ℕ) → Fires w v → generationOf v ≡ generationOf w
-fires-generation w v = ⊎-elim (λ e. ap generationOf e) (λ e. omega (arith, e .1))
-
--- and the invalid bit
-pub fires-invalid : (w v : ℕ) → Fires w v → invalidIn v ≡ invalidIn w
-fires-invalid w v = ⊎-elim (λ e. ap invalidIn e) (λ e. let q : v / 2 % 2 ≡ w / 2 % 2 = omega (arith, e .1) in ap (λ (b : ℕ). eqb b 1) q)
-
--- an invalid mark keeps the generation
-pub marks-generation : (w v : ℕ) → Marks w v → generationOf v ≡ generationOf w
-marks-generation w v = ⊎-elim (λ e. ap generationOf e) (λ e. omega arith)
 
 -- and the fired bit
 pub marks-fired : (w v : ℕ) → Marks w v → firedIn v ≡ firedIn w
@@ -107,14 +95,14 @@ module _ (W : ℕ → ℕ → Type 0) (c : Changes W) where
   stays-by true Retired m f g = record { dead = λ _. g refl; live = λ t e. absurd (none-some refl e) }
 
   -- a timer whose live word changes as the relation says, and whose deadline and use number stay
-  pub stays-life : (t : Timer) (m : Life) (w : Waiting) (d : Held)
+  stays-life : (t : Timer) (m : Life) (w : Waiting) (d : Held)
       → ((w d : ℕ) → t .life ≡ Live w d → (v : ℕ) × (W w v) × (m ≡ Live v d)) → (timingOf (t .life) ≡ none → timingOf m ≡ none)
       → StaysFor W t (record { life = m; waiting = w; held = d; uses = t .uses })
   unfolding names
   stays-life t m w d f g u = stays-by (eqb (t .uses) u) (t .life) m f g
 
 -- a word rings only where it is a generation times four
-pub rung-fires : (w g : ℕ) → Fires w (rungWord w g)
+rung-fires : (w g : ℕ) → Fires w (rungWord w g)
 rung-fires w g = cond-ref (λ v. Fires w v) (ref-eq w (g * 4)) (λ e. inr (omega arith, refl)) (λ n. inl refl)
 
 -- a pop's timer

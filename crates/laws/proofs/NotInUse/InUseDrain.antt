@@ -33,7 +33,7 @@ pub record Alike (a b : Set) : Type 0 where
   pub sound : Sound (b .heap)
 
 -- a set and the same with another heap, and with timers that turn out to be the same
-pub alike-with : (s : Set) (g : Heap) (l : List Timer) → Heap.Twins g (s .heap) → Sound (s .heap) → l ≡ s .timers
+alike-with : (s : Set) (g : Heap) (l : List Timer) → Heap.Twins g (s .heap) → Sound (s .heap) → l ≡ s .timers
     → Alike (record { heap = g; timers = l; first = s .first; closed = s .closed }) s
 alike-with s g l r h e = record {
   twins = record {
@@ -82,7 +82,7 @@ module _ (s : Set) (g : Heap) (r : Heap.Twins g (s .heap)) (h : Sound (s .heap))
   settled-by Retired = alike (settledBy s p t Retired) g r h
 
 -- the timer at the head of the list is taken off it and its update made
-pub settled-alike : {a b : Set} → Alike a b → (p : ℕ) → Alike (settledOf a p) (settledOf b p)
+settled-alike : {a b : Set} → Alike a b → (p : ℕ) → Alike (settledOf a p) (settledOf b p)
 unfolding settledOf
 settled-alike r p =
     by-alike (λ (a b : Set). Alike (settledOf a p) (settledOf b p))

@@ -63,7 +63,7 @@ rung-over r g t h b =
       popped = refl;
     })
 
-pub rung-same : {q r : Ring} → SameRing q r → 0 < r .set .heap .len → SameRing (rungOf q) (rungOf r)
+rung-same : {q r : Ring} → SameRing q r → 0 < r .set .heap .len → SameRing (rungOf q) (rungOf r)
 rung-same {q} {r} e =
     subst (λ (x : Ring). 0 < r .set .heap .len → SameRing (rungOf x) (rungOf r)) (sym whole)
     (rung-over r (q .set .heap) (heap-twins (e .sets .twins)) (e .sets .sound))
@@ -72,7 +72,7 @@ rung-same {q} {r} e =
     whole = λ t. record { set = as-over (e .sets .twins .same) t; list = e .lists t; reported = e .reported t; popped = e .popped t }
 
 -- pops while the head is due
-pub ring-same : (k : ℕ) {q r : Ring} (N : ℕ) → SameRing q r → SameRing (ringFrom k q N) (ringFrom k r N)
+ring-same : (k : ℕ) {q r : Ring} (N : ℕ) → SameRing q r → SameRing (ringFrom k q N) (ringFrom k r N)
 unfolding ringFrom
 ring-same zero N e = e
 ring-same (suc k) {q} {r} N e =
@@ -96,7 +96,7 @@ unfolding unlistedOf
 unlisted-alike r p = by-alike (λ (a b : Set). Alike (unlistedOf a p) (unlistedOf b p)) (λ s g t h. alike (unlistedOf s p) g t h) r
 
 -- the list is emptied
-pub unlist-alike : (k : ℕ) {a b : Set} → Alike a b → Alike (unlistFrom k a) (unlistFrom k b)
+unlist-alike : (k : ℕ) {a b : Set} → Alike a b → Alike (unlistFrom k a) (unlistFrom k b)
 unfolding unlistFrom
 unlist-alike zero r = r
 unlist-alike (suc k) r = turn-alike r (λ p. unlist-alike k (unlisted-alike r p))
@@ -119,7 +119,7 @@ popped-len s h b =
     ∙ remove-len (s .heap) c (entryAt (s .heap) 0 .slot) (record { 0 = 0 }) (c .forth 0 b .0) (c .forth 0 b .1)
 
 -- as many pops as there are entries, or fewer
-pub empty-alike : (k : ℕ) {a b : Set} → Alike a b → k ≤ b .heap .len → Alike (emptyFrom k a) (emptyFrom k b)
+empty-alike : (k : ℕ) {a b : Set} → Alike a b → k ≤ b .heap .len → Alike (emptyFrom k a) (emptyFrom k b)
 unfolding emptyFrom
 empty-alike zero r l = r
 empty-alike (suc k) {b = b} r l =

@@ -13,7 +13,7 @@ use Rattle.theory.specs.Counting.{count}
 use Rattle.theory.specs.Chain.{chainOkb, chainOf}
 use Rattle.theory.proofs.Counting.{count-off}
 use Rattle.theory.proofs.ChainTest.{ok-head}
-use Rattle.theory.proofs.ChainChange.{chain-same, list-same, push-ok, pop-ok}
+use Rattle.theory.proofs.ChainChange.{chain-same, push-ok, pop-ok}
 use Rattle.theory.proofs.Stores.{sees, sees-other}
 use Rattle.heap.specs.Capacity.{cap}
 use Rattle.heap.specs.declared.Heap.{Heap}
@@ -83,14 +83,6 @@ module _ (s : Set) (h : Heap) (p : ℕ) (t : Timer) (f : First) where
       (λ y _. after-same e y) cap (headOf (s .first)))
       ∙ l
 
-  -- and it has the same places
-  pub list-kept : t .waiting ≡ timerAt s p .waiting → f ≡ s .first → Listed s → listOf (changed s h p t f) ≡ listOf s
-  unfolding listOf
-  list-kept e q l =
-      ap (λ (x : First). chainOf (waitsAt (changed s h p t f)) (afterAt (changed s h p t f)) cap (headOf x)) q
-      ∙ list-same (waitsAt s) (waitsAt (changed s h p t f)) (afterAt s) (afterAt (changed s h p t f)) (waits-same e)
-      (λ y _. after-same e y) cap (headOf (s .first)) l
-
   module _ (long : length (s .timers) ≡ cap) (b : p < cap) where
     -- the place waits where the new timer does
     pub waits-here : waitsAt (changed s h p t f) p ≡ isWaiting (t .waiting)
@@ -115,12 +107,6 @@ module _ (s : Set) (h : Heap) (p : ℕ) (t : Timer) (f : First) where
         pub list-pushed : Listed (changed s h p t f)
         list-pushed =
             ap (λ (x : First). chainOkb (waitsAt (changed s h p t f)) (afterAt (changed s h p t f)) cap (headOf x)) front ∙ pushed .0
-
-        -- the place is in front of it
-        pub list-push : listOf (changed s h p t f) ≡ p ∷ listOf s
-        unfolding listOf
-        list-push =
-            ap (λ (x : First). chainOf (waitsAt (changed s h p t f)) (afterAt (changed s h p t f)) cap (headOf x)) front ∙ pushed .1
 
     -- the place stood in front, and waits no more
     module _ (at : s .first ≡ First.At (record { 0 = p })) (off : isWaiting (t .waiting) ≡ false) (front : f ≡ headAfter (timerAt s p .waiting))

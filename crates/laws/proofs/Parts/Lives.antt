@@ -36,7 +36,7 @@ cancelled-retired : {A : Type 0} {l : Life} {w : ℕ} → l ≡ Cancelled w → 
 cancelled-retired e f = let z : _≡_ {A = ℕ} 0 1 = cc in absurd (omega arith)
 
 -- a life has one word
-pub live-word : {l : Life} {w d v c : ℕ} → l ≡ Live w d → l ≡ Live v c → w ≡ v
+live-word : {l : Life} {w d v c : ℕ} → l ≡ Live w d → l ≡ Live v c → w ≡ v
 live-word e f = cc
 
 cancelled-word : {l : Life} {w v : ℕ} → l ≡ Cancelled w → l ≡ Cancelled v → w ≡ v

@@ -109,7 +109,7 @@ module _ (h : Heap) (held held' : ℕ → Held) (p : ℕ) (s : Slots h held) (th
         ∙ ap (λ (z : Slot). z .0) (at-same (f .named) (ap held y ∙ at)))))
 
     -- the place's entry is removed, and the place names no slot
-    pub slots-removed : Slots (removeSound h q .state) held'
+    slots-removed : Slots (removeSound h q .state) held'
     slots-removed =
         let o = s .own p q b at in
         let r = remove-found h (sound-slab h (s .sound)) q (o .it) (o .found) in

@@ -49,7 +49,7 @@ module _ (h : Heap) (held : ℕ → Held) (s : Slots h held) where
   fits-at i b = s .fits (slotAt h i) (entryAt h i) (lookup-at h (sound-slab h (s .sound)) i b)
 
   -- two entries have different places
-  pub place-apart : (i j : ℕ) → i < h .len → j < h .len → (i ≡ j → ⊥) → entryAt h i .place .0 ≡ entryAt h j .place .0 → ⊥
+  place-apart : (i j : ℕ) → i < h .len → j < h .len → (i ≡ j → ⊥) → entryAt h i .place .0 ≡ entryAt h j .place .0 → ⊥
   place-apart i j a b n e =
       slot-apart h (sound-slab h (s .sound)) i j a b n
       (ap (λ (z : Slot). z .0) (at-same (fits-at i a .named) (ap held e ∙ fits-at j b .named)))

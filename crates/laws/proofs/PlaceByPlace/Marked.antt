@@ -50,7 +50,7 @@ met-steps = record {
 }
 
 -- a close leaves every timer as it was, or marks it
-pub closed-met : (s : Set) → Each Met s (closedOf s)
+closed-met : (s : Set) → Each Met s (closedOf s)
 closed-met = closed-steps Met met-steps (λ t w. inr (refl, refl))
 
 module _ (s : Set) (ok : Sound s) (h : Handle) (t : Timing) (live : liveAt s h ≡ some t) where

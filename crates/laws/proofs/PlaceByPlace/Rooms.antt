@@ -1,6 +1,6 @@
--- Who has a place, place by place: a drain, an advance and a close give out no handle, keep every use number in its range, and an
--- advance and a close cancel nobody and free no place. After a drain nobody is cancelled. What an add, a reset and a cancel do is told
--- by the life that they leave.
+-- Who has a place, place by place: a drain and an advance give out no handle and keep every use number in its range, and an advance
+-- cancels nobody and frees no place. After a drain nobody is cancelled. What an add, a reset and a cancel do is told by the life that
+-- they leave.
 -- Assumes nothing.
 use mathlib.Core.Path.{_≡_, refl, sym, _∙_, ap, ap₂, subst}
 use mathlib.Core.Bool.{Bool, true, false, not}
@@ -19,12 +19,12 @@ use Rattle.state.specs.declared.Set.{Set}
 use Rattle.state.specs.State.{timerAt, isWaiting, freshOf}
 use Rattle.state.specs.Sound.{Sound}
 use Rattle.state.proofs.FreshSound.{fresh-at}
-use Rattle.moves.specs.Rules.{isFree, taken, lowestFree, touchedOf, freedOf, drainedOf, rungLife, advancedOf, markedLife, closedOf}
+use Rattle.moves.specs.Rules.{isFree, taken, lowestFree, touchedOf, freedOf, drainedOf, rungLife, advancedOf}
 use Rattle.laws.specs.Words.{Words}
 use Rattle.laws.specs.Rooms.{givenBy, givenOf, isCancelled, InUses}
 use Rattle.laws.proofs.Parts.Freed.{freed-by}
 use Rattle.laws.proofs.Soundness.DrainSound.{drained-sound, drained-open, drained-none-waits}
-use Rattle.laws.proofs.PlaceByPlace.Places.{Order, Each, drained-each, advanced-each, closed-each}
+use Rattle.laws.proofs.PlaceByPlace.Places.{Order, Each, drained-each, advanced-each}
 use Rattle.laws.proofs.Handles.ByHandle.{touched-here}
 
 -- RELATIONS OF TIMERS
@@ -100,13 +100,6 @@ rung-kind g (Live w d) = record { free = refl; cancelled = refl; retired = λ e.
 rung-kind g (Cancelled w) = record { free = refl; cancelled = refl; retired = λ e. cc }
 rung-kind g Retired = same-kind Retired Retired refl
 
--- and so does a mark
-marked-kind : (l : Life) → Kind l (markedLife l)
-marked-kind Free = same-kind Free Free refl
-marked-kind (Live w d) = record { free = refl; cancelled = refl; retired = λ e. cc }
-marked-kind (Cancelled w) = record { free = refl; cancelled = refl; retired = λ e. cc }
-marked-kind Retired = same-kind Retired Retired refl
-
 -- A DRAIN, AN ADVANCE, A CLOSE
 
 -- a drain gives out no handle, and keeps the use numbers in their range
@@ -117,10 +110,6 @@ drained-rooms = drained-each Keeps keeps-order freed-keeps
 advanced-alike : (s : Set) (N : ℕ) (l : List ℕ) → Each Alike s (advancedOf s N l .set)
 advanced-alike = advanced-each Alike alike-order (λ g t. record { uses = refl; kind = rung-kind g (t .life) })
 
--- and so does a close
-closed-alike : (s : Set) → Each Alike s (closedOf s)
-closed-alike = closed-each Alike alike-order (λ t w. record { uses = refl; kind = marked-kind (t .life) })
-
 -- after a drain as many handles of a place were given out as before
 pub drained-given : (s : Set) (p : ℕ) → givenOf (timerAt (drainedOf s) p) ≡ givenOf (timerAt s p)
 drained-given s p = drained-rooms s p .given
@@ -128,10 +117,6 @@ drained-given s p = drained-rooms s p .given
 -- after an advance too
 pub advanced-given : (s : Set) (N : ℕ) (l : List ℕ) (p : ℕ) → givenOf (timerAt (advancedOf s N l .set) p) ≡ givenOf (timerAt s p)
 advanced-given s N l p = alike-keeps _ _ (advanced-alike s N l p) .given
-
--- after a close too
-pub closed-given : (s : Set) (p : ℕ) → givenOf (timerAt (closedOf s) p) ≡ givenOf (timerAt s p)
-closed-given s p = alike-keeps _ _ (closed-alike s p) .given
 
 -- a drain keeps the use numbers in their range
 pub drained-in-uses : (s : Set) (p : ℕ) → InUses (timerAt s p) → InUses (timerAt (drainedOf s) p)
@@ -141,10 +126,6 @@ drained-in-uses s p = drained-rooms s p .in-uses
 pub advanced-in-uses : (s : Set) (N : ℕ) (l : List ℕ) (p : ℕ) → InUses (timerAt s p) → InUses (timerAt (advancedOf s N l .set) p)
 advanced-in-uses s N l p = alike-keeps _ _ (advanced-alike s N l p) .in-uses
 
--- so does a close
-pub closed-in-uses : (s : Set) (p : ℕ) → InUses (timerAt s p) → InUses (timerAt (closedOf s) p)
-closed-in-uses s p = alike-keeps _ _ (closed-alike s p) .in-uses
-
 -- after an advance the same timers are cancelled
 pub advanced-cancelled : (s : Set) (N : ℕ) (l : List ℕ) (p : ℕ)
     → isCancelled (timerAt (advancedOf s N l .set) p .life) ≡ isCancelled (timerAt s p .life)
@@ -153,14 +134,6 @@ advanced-cancelled s N l p = advanced-alike s N l p .kind .cancelled
 -- and every use number is as it was
 pub advanced-uses : (s : Set) (N : ℕ) (l : List ℕ) (p : ℕ) → timerAt (advancedOf s N l .set) p .uses ≡ timerAt s p .uses
 advanced-uses s N l p = advanced-alike s N l p .uses
-
--- after a close the same timers are cancelled
-pub closed-cancelled : (s : Set) (p : ℕ) → isCancelled (timerAt (closedOf s) p .life) ≡ isCancelled (timerAt s p .life)
-closed-cancelled s p = closed-alike s p .kind .cancelled
-
--- and every use number is as it was
-pub closed-uses : (s : Set) (p : ℕ) → timerAt (closedOf s) p .uses ≡ timerAt s p .uses
-closed-uses s p = closed-alike s p .uses
 
 -- a life that is no cancelled one
 none-cancelled : (l : Life) → ((w : ℕ) → l ≡ Cancelled w → ⊥) → isCancelled l ≡ false

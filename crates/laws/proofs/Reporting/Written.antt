@@ -17,7 +17,7 @@ use Rattle.moves.specs.Rules.{Ring, reports, rungOf}
 use Rattle.laws.proofs.Soundness.AdvancedSound.{rung-len}
 
 -- a store right after the first n words adds its word to them
-pub take-set : {A : Type 0} (l : List A) (n : ℕ) (a : A) → n < length l → take (n + 1) (set l n a) ≡ take n l ++ (a ∷ [])
+take-set : {A : Type 0} (l : List A) (n : ℕ) (a : A) → n < length l → take (n + 1) (set l n a) ≡ take n l ++ (a ∷ [])
 take-set l n a h = let e : n + 1 ≡ suc n = omega arith in rw e (take-suc-set l n a h)
 
 -- whether a pop of the head is reported

@@ -35,7 +35,7 @@ abbrev pub fromStart : Set → List ℕ → Ring
 fromStart s l = record { set = s; list = l; reported = 0; popped = 0 }
 
 -- after any run of pops the set is sound
-pub ring-sound : (k : ℕ) (r : Ring) (N : ℕ) → Sound (r .set) → Sound (ringFrom k r N .set)
+ring-sound : (k : ℕ) (r : Ring) (N : ℕ) → Sound (r .set) → Sound (ringFrom k r N .set)
 ring-sound k r N = ring-by (λ x. Sound (x .set)) N (λ x e ok. rung-sound x ok (due-some (x .set .heap) N e)) k r
 
 -- after an advance the set is sound
@@ -55,12 +55,12 @@ unfolding rungOf
 rung-len r ok b = pop-len (r .set .heap) (sound-slab (r .set .heap) (ok .heap-sound)) b
 
 -- of an empty heap nothing is due
-pub empty-not-due : (h : Heap) (N : ℕ) → h .len ≡ 0 → dueBy h N ≡ false
+empty-not-due : (h : Heap) (N : ℕ) → h .len ≡ 0 → dueBy h N ≡ false
 unfolding dueBy
 empty-not-due h N e = ap (λ (b : Bool). b && leb (entryAt h 0 .at) N) (le-ltb 0 (h .len) (omega arith))
 
 -- after as many pops as there are entries the head is not due
-pub ring-not-due : (k : ℕ) (r : Ring) (N : ℕ) → Sound (r .set) → r .set .heap .len ≤ k → dueBy (ringFrom k r N .set .heap) N ≡ false
+ring-not-due : (k : ℕ) (r : Ring) (N : ℕ) → Sound (r .set) → r .set .heap .len ≤ k → dueBy (ringFrom k r N .set .heap) N ≡ false
 unfolding ringFrom
 ring-not-due zero r N ok b = empty-not-due (r .set .heap) N (omega arith)
 ring-not-due (suc k) r N ok b = go (dueBy (r .set .heap) N) refl (ring-not-due k (rungOf r) N)

@@ -1,5 +1,4 @@
--- The calls that update a timer keep a set sound, and so does the drain, whether they are refused or not; and every call keeps what
--- the code's types say of a set.
+-- The changes that an add, a reset and a cancel make keep a set sound; and every call keeps what the code's types say of a set.
 -- Assumes nothing.
 use mathlib.Core.Path.{_≡_, refl}
 use mathlib.Core.Bool.{false}
@@ -9,34 +8,32 @@ use Prim.Native.Nat.{ℕ}
 use native.Mathlib.Omega.{arith}
 use Rattle.heap.specs.Capacity.{cap}
 use Rattle.word.specs.Rules as Word
-use Rattle.interval.specs.declared.Policy.{Policy}
 use Rattle.state.specs.declared.Life.the-variants.{Live, Cancelled}
 use Rattle.state.specs.declared.Set.{Set}
 use Rattle.state.specs.declared.Handle.{Handle}
 use Rattle.state.specs.Sound.{Sound}
 use Rattle.timers.specs.declared.Call.{Call}
 use Rattle.moves.specs.Rules.{touchedOf, lowestFree, drainedOf}
-use Rattle.timers.specs.Calls.{Timing, liveAt, addOf, resetTo, resetOf, cancelOf, drainOf, tickAt, restartAt, step}
+use Rattle.timers.specs.Calls.{Timing, liveAt, resetTo, step}
 use Rattle.laws.specs.Words.{Words}
 use Rattle.laws.proofs.PlaceByPlace.Words.{live-small, other-small, touched-words, drain-words}
 use Rattle.laws.proofs.PlaceByPlace.WordsKept.{advanced-words-kept, closed-words}
 use Rattle.laws.proofs.AnyCall.Found.{reset-unmarked, reset-small, lowest-in, live-in}
 use Rattle.laws.proofs.Soundness.Touch.{touched-sound}
-use Rattle.laws.proofs.Soundness.DrainSound.{drained-sound}
-use Rattle.laws.proofs.AnyCall.CallsKeep.{Kept, add-keeps-it, reset-keeps-it, cancel-keeps-it, drain-keeps-it, tick-keeps-it, restart-keeps-it, step-keeps-it}
+use Rattle.laws.proofs.AnyCall.CallsKeep.{Kept, step-keeps-it}
 
 module _ (s : Set) (o : Sound s) where
   -- an add, in the lowest free place
-  pub added-sound : (p d : ℕ) → s .closed ≡ false → lowestFree s ≡ some p → Sound (touchedOf s p (Live 0 d))
+  added-sound : (p d : ℕ) → s .closed ≡ false → lowestFree s ≡ some p → Sound (touchedOf s p (Live 0 d))
   added-sound p d c e = touched-sound s p (Live 0 d) o c (lowest-in s p e) refl
 
   -- a reset of a timer that is live
-  pub reset-to-sound : (h : Handle) (t : Timing) (d : ℕ) → s .closed ≡ false → liveAt s h ≡ some t → Sound (resetTo s h d t)
+  reset-to-sound : (h : Handle) (t : Timing) (d : ℕ) → s .closed ≡ false → liveAt s h ≡ some t → Sound (resetTo s h d t)
   reset-to-sound h t d c e =
       touched-sound s (h .place .0) (Live (Word.resetOf (t .word)) d) o c (live-in s h t e .0) (reset-unmarked (t .word))
 
   -- a cancel of a timer that is live: its word is not marked, since the set is open
-  pub cancelled-sound : (h : Handle) (t : Timing) → s .closed ≡ false → liveAt s h ≡ some t → Sound (touchedOf s (h .place .0) (Cancelled (t .word)))
+  cancelled-sound : (h : Handle) (t : Timing) → s .closed ≡ false → liveAt s h ≡ some t → Sound (touchedOf s (h .place .0) (Cancelled (t .word)))
   cancelled-sound h t c e =
       let q = live-in s h t e in
       touched-sound s (h .place .0) (Cancelled (t .word)) o c (q .0) (o .live-unmarked (h .place .0) (t .word) (t .due) (q .0) c (q .1))
@@ -44,30 +41,6 @@ module _ (s : Set) (o : Sound s) where
   -- the changes of one timer
   pub sound-kept : Kept Sound s
   sound-kept = record { now = o; adds = added-sound; resets = reset-to-sound; cancels = cancelled-sound }
-
-  -- add
-  pub add-sound : (d : ℕ) → Sound (addOf s d .state)
-  add-sound = add-keeps-it Sound s sound-kept
-
-  -- reset
-  pub reset-sound : (h : Handle) (d : ℕ) → Sound (resetOf s h d .state)
-  reset-sound = reset-keeps-it Sound s sound-kept
-
-  -- cancel
-  pub cancel-sound : (h : Handle) → Sound (cancelOf s h .state)
-  cancel-sound = cancel-keeps-it Sound s sound-kept
-
-  -- tick
-  pub tick-sound : (h : Handle) (p : Policy) (period N : ℕ) → Sound (tickAt s h p period N .state)
-  tick-sound = tick-keeps-it Sound s sound-kept
-
-  -- interval reset
-  pub restart-sound : (h : Handle) (period N : ℕ) → Sound (restartAt s h period N .state)
-  restart-sound = restart-keeps-it Sound s sound-kept
-
-  -- drain
-  pub drain-sound : Words s → Sound (drainOf s .state)
-  drain-sound w = drain-keeps-it Sound s sound-kept (λ c. drained-sound s o c w)
 
 -- every call, of any set
 pub step-words : (s : Set) → Words s → (c : Call) (l : List ℕ) → Words (step s c l .state .set)

@@ -38,7 +38,7 @@ module _ (s : Set) (c : Closing s) (b : 0 < s .heap .len) where
       record { life = markedLife (t .life); waiting = t .waiting; held = Held.Nothing; uses = t .uses }
 
   -- a pop of a close keeps the set in the middle of it
-  pub popped-closing : Closing (poppedOf s)
+  popped-closing : Closing (poppedOf s)
   unfolding poppedOf met
   popped-closing = record {
     tied = headless-tied s (c .tied) b met refl;
@@ -50,7 +50,7 @@ module _ (s : Set) (c : Closing s) (b : 0 < s .heap .len) where
   }
 
   -- it takes one entry
-  pub popped-len : poppedOf s .heap .len + 1 ≡ s .heap .len
+  popped-len : poppedOf s .heap .len + 1 ≡ s .heap .len
   unfolding poppedOf
   popped-len = omega (arith, pop-len (s .heap) (sound-slab (s .heap) (c .tied .heap-sound)) b)
 
@@ -66,7 +66,7 @@ pub record Emptied (s : Set) : Type 0 where
   pub none-left : s .heap .len ≡ 0
 
 -- after as many pops as there are entries the heap is empty
-pub empty-all : (k : ℕ) (s : Set) → Closing s → s .first ≡ First.Nothing → s .heap .len ≡ k → Emptied (emptyFrom k s)
+empty-all : (k : ℕ) (s : Set) → Closing s → s .first ≡ First.Nothing → s .heap .len ≡ k → Emptied (emptyFrom k s)
 unfolding emptyFrom
 empty-all zero s c f e = record { closing = c; no-first = f; none-left = e }
 empty-all (suc k) s c f e =

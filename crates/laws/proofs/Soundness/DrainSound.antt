@@ -47,7 +47,7 @@ pub empty-none : (s : Set) → Open s → s .first ≡ First.Nothing → count (
 empty-none s o e = ok-none (waitsAt s) (afterAt s) cap (ap (λ (f : First). chainOkb (waitsAt s) (afterAt s) cap (headOf f)) (sym e) ∙ o .listed)
 
 -- as many turns as timers wait are enough
-pub drain-drained : (k : ℕ) (s : Set) → Open s → Words s → count (waitsAt s) cap ≤ k → Drained (drainFrom k s)
+drain-drained : (k : ℕ) (s : Set) → Open s → Words s → count (waitsAt s) cap ≤ k → Drained (drainFrom k s)
 unfolding drainFrom
 drain-drained zero s o w l =
     let e : count (waitsAt s) cap ≡ 0 = omega arith in
@@ -68,7 +68,7 @@ no-wait (Before q) e = cc
 
 module _ (s : Set) (sound : Sound s) (c : s .closed ≡ false) (words : Words s) where
   -- what a drain leaves
-  pub drained-drained : Drained (drainedOf s)
+  drained-drained : Drained (drainedOf s)
   drained-drained = drain-drained cap s (sound-open s sound c) words (count-le (waitsAt s) cap)
 
   -- a drain keeps a set that is open sound
@@ -78,10 +78,6 @@ module _ (s : Set) (sound : Sound s) (c : s .closed ≡ false) (words : Words s)
   -- the set stays open
   pub drained-open : drainedOf s .closed ≡ false
   drained-open = drained-drained .is-open .not-closed
-
-  -- the list is empty after it
-  pub drained-first : drainedOf s .first ≡ First.Nothing
-  drained-first = drained-drained .first-none
 
   -- no timer waits after it
   pub drained-none-waits : (p : ℕ) → p < cap → timerAt (drainedOf s) p .waiting ≡ No

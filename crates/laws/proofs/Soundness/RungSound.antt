@@ -24,11 +24,11 @@ use Rattle.laws.proofs.Parts.Ties.{Tied, Fine, sound-tied, sound-owned,
 use Rattle.laws.proofs.Soundness.Popping.{headless, headless-all, headless-tied, headless-owned, headless-listed}
 
 -- firing does not touch the invalid bit
-pub fired-invalid : (w : ℕ) → invalidIn (firedOf w) ≡ invalidIn w
+fired-invalid : (w : ℕ) → invalidIn (firedOf w) ≡ invalidIn w
 fired-invalid w = let e : (w / 2 * 2 + 1) / 2 % 2 ≡ w / 2 % 2 = omega arith in ap (λ (b : ℕ). eqb b 1) e
 
 -- whether the word matches or not
-pub rung-invalid : (w g : ℕ) → invalidIn (rungWord w g) ≡ invalidIn w
+rung-invalid : (w g : ℕ) → invalidIn (rungWord w g) ≡ invalidIn w
 rung-invalid w g = go (matchesIn w g)
   where
     go : (b : Bool) → invalidIn (cond b (firedOf w) w) ≡ invalidIn w
@@ -36,7 +36,7 @@ rung-invalid w g = go (matchesIn w g)
     go false = refl
 
 -- a timer that rings is as fine as it was
-pub rung-fine : (closed : Bool) (g : ℕ) (t : Timer) → Fine closed t → Fine closed (rungTimer g t)
+rung-fine : (closed : Bool) (g : ℕ) (t : Timer) → Fine closed t → Fine closed (rungTimer g t)
 rung-fine closed g t = go (t .life) refl
   where
     go : (l : Life) → t .life ≡ l → Fine closed t

@@ -15,7 +15,6 @@ use Rattle.theory.proofs.Update.{upd-same, upd-other}
 use Rattle.theory.proofs.Tests.{true-false, and-left}
 use Rattle.heap.specs.Capacity.{cap}
 use Rattle.heap.specs.declared.Heap.{Heap}
-use Rattle.heap.specs.declared.Place.{Place}
 use Rattle.heap.specs.Calls.{pushSound}
 use Rattle.word.specs.Rules.{generationOf}
 use Rattle.state.specs.declared.Life.{Life}
@@ -29,7 +28,7 @@ use Rattle.state.specs.declared.Timer.{Timer}
 use Rattle.state.specs.declared.Set.{Set}
 use Rattle.state.specs.State.{timerAt, isWaiting, headAfter}
 use Rattle.state.specs.Faults.{waitsAt}
-use Rattle.state.specs.Sound.{Unused, Sound}
+use Rattle.state.specs.Sound.{Unused}
 use Rattle.moves.specs.Rules.{withFirst, droppedOf, heldBy, freedOf, settledBy, settledOf}
 use Rattle.laws.specs.Words.{Words}
 use Rattle.laws.proofs.Parts.OpenSlots.{Slots, slots-dropped, slots-pushed}
@@ -37,7 +36,7 @@ use Rattle.laws.proofs.Parts.Room.{room}
 use Rattle.laws.proofs.Parts.Lives.{Lives, lives-live}
 use Rattle.laws.proofs.Parts.Freed.{freed-held, freed-waiting, freed-lives}
 use Rattle.laws.proofs.Parts.Change.{heldAt, changed, held-there, timer-here}
-use Rattle.laws.proofs.Parts.OpenSet.{Open, sound-open, open-sound, open-changed}
+use Rattle.laws.proofs.Parts.OpenSet.{Open, open-changed}
 use Rattle.laws.proofs.Parts.ListChange.{listOf, waits-in, first-waits, list-popped, list-pop, waits-fall}
 
 -- what one turn with the timer at p makes of s
@@ -147,17 +146,3 @@ module _ (s : Set) (o : Open s) (words : Words s) (p : ℕ) (at : s .first ≡ F
   pub settled-settles : Settles s p (settledOf s p)
   unfolding settledOf
   settled-settles = settles-by (timerAt s p .life) refl
-
--- the same of a sound set that is open
-module _ (s : Set) (sound : Sound s) (c : s .closed ≡ false) (words : Words s) (p : Place) (at : s .first ≡ First.At p) where
-  -- it stays sound
-  pub settled-sound : Sound (settledOf s (p .0))
-  settled-sound = open-sound (settledOf s (p .0)) (settled-settles s (sound-open s sound c) words (p .0) at .is-open)
-
-  -- its list is the tail of the list before
-  pub settled-tail : listOf s ≡ p .0 ∷ listOf (settledOf s (p .0))
-  settled-tail = settled-settles s (sound-open s sound c) words (p .0) at .tail
-
-  -- one timer less waits
-  pub settled-fewer : count (waitsAt s) cap ≡ suc (count (waitsAt (settledOf s (p .0))) cap)
-  settled-fewer = settled-settles s (sound-open s sound c) words (p .0) at .fewer

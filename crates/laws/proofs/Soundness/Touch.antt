@@ -2,8 +2,7 @@
 -- did not wait before.
 -- Assumes nothing.
 use mathlib.Core.Path.{_≡_, refl, sym, _∙_}
-use mathlib.Core.Bool.{Bool, true, false, cond}
-use mathlib.Core.List.{_∷_}
+use mathlib.Core.Bool.{Bool, true, false}
 use Prim.Native.Nat.{ℕ, _<_}
 use lib.ListN.{length}
 use Rattle.theory.proofs.Stores.{sees}
@@ -23,7 +22,7 @@ use Rattle.laws.proofs.Parts.Lives.{Lives, lives-live, lives-cancelled}
 use Rattle.laws.proofs.Parts.Change.{heldAt, changed}
 use Rattle.laws.proofs.Parts.OpenSet.{Open, sound-open, open-sound, open-changed}
 use Rattle.laws.proofs.Parts.Ties.{Listed}
-use Rattle.laws.proofs.Parts.ListChange.{link-waits, listOf, list-stays, list-kept, waits-here, list-pushed, list-push}
+use Rattle.laws.proofs.Parts.ListChange.{link-waits, list-stays, waits-here, list-pushed}
 
 -- the new life of a touched timer: live or cancelled, and not marked invalid
 abbrev pub Unmarked : Life → Type 0
@@ -63,11 +62,6 @@ module _ (s : Set) (p : ℕ) (l : Life) where
     touch-listed false e =
         list-pushed s (s .heap) p (touchedBy false (timerAt s p) (s .first) l) (headBy false p (s .first)) long c e refl refl
 
-    touch-list : (b : Bool) → isWaiting (timerAt s p .waiting) ≡ b → Listed s → listOf (after b) ≡ cond b (listOf s) (p ∷ listOf s)
-    touch-list true e = list-kept s (s .heap) p (touchedBy true (timerAt s p) (s .first) l) (s .first) refl refl
-    touch-list false e =
-        list-push s (s .heap) p (touchedBy false (timerAt s p) (s .first) l) (headBy false p (s .first)) long c e refl refl
-
     -- a touched timer waits
     pub touched-waits : waitsAt (touchedOf s p l) p ≡ true
     unfolding touchedOf
@@ -76,13 +70,8 @@ module _ (s : Set) (p : ℕ) (l : Life) where
         (headBy (isWaiting (timerAt s p .waiting)) p (s .first)) long c
         ∙ touched-waiting (isWaiting (timerAt s p .waiting)) (timerAt s p) (s .first) refl
 
-    -- it is put in front of the list, or stays where it is in it
-    pub touched-list : Listed s → listOf (touchedOf s p l) ≡ cond (isWaiting (timerAt s p .waiting)) (listOf s) (p ∷ listOf s)
-    unfolding touchedOf
-    touched-list = touch-list (isWaiting (timerAt s p .waiting)) refl
-
   -- the parts of a sound set that is open are kept
-  pub touched-open : Open s → p < cap → Unmarked l → Open (touchedOf s p l)
+  touched-open : Open s → p < cap → Unmarked l → Open (touchedOf s p l)
   unfolding touchedOf
   touched-open o c u = go (isWaiting (timerAt s p .waiting)) refl
     where

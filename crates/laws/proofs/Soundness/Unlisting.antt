@@ -81,11 +81,11 @@ module _ (s : Set) (c : Closing s) (p : ℕ) (first : headOf (s .first) ≡ some
   off-head = head-next (timerAt s p .waiting)
 
   -- one timer fewer waits
-  pub unlisted-count : count (waitsAt s) cap ≡ suc (count (waitsAt (unlistedOf s p)) cap)
+  unlisted-count : count (waitsAt s) cap ≡ suc (count (waitsAt (unlistedOf s p)) cap)
   unlisted-count = count-off (waitsAt (unlistedOf s p)) (waitsAt s) cap p (λ y n. sym (other-waits y n)) off-waits head-waits head-below
 
   -- the set is in the middle of a close still
-  pub unlisted-closing : Closing (unlistedOf s p)
+  unlisted-closing : Closing (unlistedOf s p)
   unfolding unlistedOf taken-off
   unlisted-closing = record {
     tied = record {

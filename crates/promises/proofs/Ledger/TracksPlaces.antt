@@ -117,13 +117,13 @@ module _ (s : Set) (L : Ledger) (o : Housed s L) (long : length (s .timers) ≡ 
   }
 
   -- the line of the handle rewritten, which was given out
-  pub at-housed : (g : Line → Line) → L .given p ≡ suc (h .uses) → g (L .line h) .leaving ≡ isCancelled l → Housed r (at h g L)
+  at-housed : (g : Line → Line) → L .given p ≡ suc (h .uses) → g (L .line h) .leaving ≡ isCancelled l → Housed r (at h g L)
   at-housed g e c =
       touched-housed (at h g L) e (λ x d. refl) (ap (λ (x : Line). x .leaving) (upd-same handle-discrete (L .line) h (g (L .line h))) ∙ c)
       (λ k d. ap (λ (x : Line). x .leaving) (upd-other handle-discrete (L .line) h (g (L .line h)) k d))
 
   -- the handle given out by an add
-  pub more-housed : (d : ℕ) → L .given p ≡ h .uses → isCancelled l ≡ false → Housed r (oneMore p (at h (begun d) L))
+  more-housed : (d : ℕ) → L .given p ≡ h .uses → isCancelled l ≡ false → Housed r (oneMore p (at h (begun d) L))
   more-housed d e c =
       touched-housed (oneMore p (at h (begun d) L)) (upd-same ℕ-discrete (L .given) p (suc (L .given p)) ∙ ap suc e)
       (λ x m. upd-other ℕ-discrete (L .given) p (suc (L .given p)) x m)
@@ -139,7 +139,7 @@ module _ (s : Set) (L : Ledger) (o : Housed s L) (sound : Sound s) where
 
   module _ (h : Handle) (t : Timing) (e : liveAt s h ≡ some t) where
     -- the live handle was the last of its place that was given out, and is not leaving
-    pub live-counted : L .given (h .place .0) ≡ suc (h .uses)
+    live-counted : L .given (h .place .0) ≡ suc (h .uses)
     live-counted =
         let k = live-told s h t e in
         o .counted (h .place .0) (k .in-range) ∙ rw (k .is-live) (ap suc (k .same-uses))

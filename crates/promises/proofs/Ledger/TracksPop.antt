@@ -106,11 +106,11 @@ module _ (B : Type 0) (r : Ring) (L : Ledger) (tracks : Tracks B (r .set) L) (so
       uses-is = ap (λ (x : ℕ). timerAt (r .set) x .uses) (sym at) ∙ live-told (r .set) k t q .same-uses
 
       -- it is the head's
-      pub is-head : k ≡ headHandle r
+      is-head : k ≡ headHandle r
       is-head = one-handle (headHandle r) k at (sym uses-is)
 
       -- it is reported where its word matches
-      pub reports-is : headReports r ≡ matchesIn (t .word) (e .generation)
+      reports-is : headReports r ≡ matchesIn (t .word) (e .generation)
       reports-is = ap (reports (e .generation)) life-is
 
       then-is : liveAt after k ≡ some (record { word = rungWord (t .word) (e .generation); due = t .due })

@@ -117,7 +117,7 @@ timely-row t = rw at-most (go (ltb t (2 ^ 64)))
     go false = refl
 
 -- 9 and 6: the interval's rule
-pub tick-row : (p : Policy) (T period N : ℕ)
+tick-row : (p : Policy) (T period N : ℕ)
     → refusalIn (tickOf p T period N)
     ≡ cond (lateAt T N && (isSkip p && eqb period 0)) (some 9) (cond (above (tickSum p T period N)) (some 6) none)
 tick-row p T period N = go (lateAt T N) p
