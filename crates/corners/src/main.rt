@@ -1,10 +1,8 @@
 // Sets to which no call leads, or none in a lifetime, built by hand, and what the calls answer: sound ones are answered as the rules
 // say, and unsound ones, one at least for each clause of soundness, are refused with 1. Each line says what the set is, then what was
 // answered.
-mod heaps;
 mod sets;
 mod sound;
-mod tell;
 mod unsound;
 
 fn main() {

@@ -1,12 +1,12 @@
 // Sound sets to which no call leads, or none in a lifetime, and what the calls answer.
-use crate::heaps::entry;
-use crate::heaps::one;
 use crate::sets;
 use crate::sets::apart;
 use crate::sets::free;
 use crate::sets::open;
 use crate::sets::timer;
-use crate::tell;
+use handmade::heaps::entry;
+use handmade::heaps::one;
+use handmade::tell;
 use heap::Place;
 use heap::Slot;
 use state::First;

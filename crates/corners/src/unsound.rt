@@ -2,14 +2,6 @@
 // two sets it is the second, and a clause that of specs/Clauses.antt there: the set breaks the clauses that are named, and no other.
 // Three sets have no row there: each goes wrong at a step of the test that no row comes to. Where the heap is at fault, a peek of it is
 // made too.
-use crate::heaps;
-use crate::heaps::empty;
-use crate::heaps::entry;
-use crate::heaps::freed;
-use crate::heaps::full;
-use crate::heaps::holding;
-use crate::heaps::slab;
-use crate::heaps::vacated;
 use crate::sets;
 use crate::sets::apart;
 use crate::sets::closed;
@@ -19,7 +11,15 @@ use crate::sets::open;
 use crate::sets::open_two;
 use crate::sets::timer;
 use crate::sets::waits;
-use crate::tell;
+use handmade::heaps;
+use handmade::heaps::empty;
+use handmade::heaps::entry;
+use handmade::heaps::freed;
+use handmade::heaps::full;
+use handmade::heaps::holding;
+use handmade::heaps::slab;
+use handmade::heaps::vacated;
+use handmade::tell;
 use heap::Heap;
 use heap::Place;
 use heap::Slot;

@@ -3,6 +3,6 @@ pub mod Walking
 pub mod Slots
 pub mod AsList
 pub mod Soundness
-pub mod NotInUse
+pub mod UnusedRoom
 pub mod Testing
 pub mod NoSecond

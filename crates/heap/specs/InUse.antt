@@ -1,5 +1,5 @@
 -- When two heaps, and what two calls give, are the same in all that counts. What lies past the entries and the slots in use
--- counts for nothing (proofs/NotInUse/InUse.antt).
+-- counts for nothing (proofs/UnusedRoom/InUse.antt).
 -- Assumes nothing.
 use mathlib.Core.Path.{_≡_}
 use Prim.Native.Nat.{ℕ, _<_}

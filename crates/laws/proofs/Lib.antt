@@ -6,5 +6,5 @@ pub mod AnyCall
 pub mod Handles
 pub mod Entries
 pub mod Reporting
-pub mod NotInUse
+pub mod UnusedRoom
 pub mod NoSecond

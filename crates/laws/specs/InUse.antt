@@ -1,4 +1,4 @@
--- When two calls come to the same, but for room not in use (proofs/NotInUse/InUse.antt).
+-- When two calls come to the same, but for room not in use (proofs/UnusedRoom/InUse.antt).
 -- Assumes nothing.
 use mathlib.Core.Path.{_≡_}
 use Rattle.refusals.specs.Answer.{Outcome}

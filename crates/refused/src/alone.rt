@@ -1,11 +1,11 @@
 // The calls on a heap used alone: an unsound one is refused with 1, a push onto a full one with 4, the removal of a slot that was never
 // made or is empty with 11. An empty heap is no reason for a refusal.
-use crate::heaps::entry;
-use crate::heaps::full_heap;
-use crate::heaps::one;
-use crate::heaps::two;
-use crate::heaps::vacated;
-use crate::tell;
+use handmade::heaps::entry;
+use handmade::heaps::full_heap;
+use handmade::heaps::one;
+use handmade::heaps::two;
+use handmade::heaps::vacated;
+use handmade::tell;
 use heap::Heap;
 use heap::Place;
 use heap::Slot;
@@ -70,7 +70,7 @@ fn filled() {
     push(b"a full heap: push ", full_heap());
     push(
         b"row 1, clauses 11 and 13, an entry too many: push ",
-        crate::heaps::with_one_more_entry(full_heap()),
+        handmade::heaps::with_one_more_entry(full_heap()),
     );
 }
 

@@ -1,6 +1,6 @@
 // Every call on a set: on a sound one, on an unsound one, which refuses each with 1, and on a closed one, which refuses all but two with
 // 2. The calls are made by `perform`, which makes each by its own function. Then what a handle and a tick are refused for.
-use crate::tell;
+use handmade::tell;
 use heap::Place;
 use interval::Policy;
 use state::Handle;

@@ -1,6 +1,6 @@
 // What a clock refuses: a counter below its start with 7, a sum past the last time with 6, and a call in the wrong mode with 8.
-use crate::tell;
 use clock::Clock;
+use handmade::tell;
 
 // What the clock is, and what a reading and a pause of it answer.
 fn running(what: &[u8], c: Clock, raw: u64) {

@@ -1,6 +1,6 @@
 // Report lists: one with a word too few is refused with 5, after a close with 2; of a longer one only the words of the reports are
 // written, and in a refused call none. Before each call the words of a list are 100, 101 and so on.
-use crate::tell;
+use handmade::tell;
 use state::Set;
 use timers::Reply;
 

@@ -3,9 +3,7 @@
 mod alone;
 mod calls;
 mod clocks;
-mod heaps;
 mod lists;
-mod tell;
 
 fn main() {
     calls::run();

@@ -24,7 +24,7 @@ use Rattle.heap.specs.InUse as Heap
 use Rattle.heap.proofs.AsList.Items.{and-same}
 use Rattle.heap.proofs.Soundness.SoundFacts.{full-back}
 use Rattle.heap.proofs.Testing.Test.{consistent-sound}
-use Rattle.heap.proofs.NotInUse.InUseTest as HeapTest
+use Rattle.heap.proofs.UnusedRoom.InUseTest as HeapTest
 use Rattle.state.specs.declared.Held.{Held}
 use Rattle.state.specs.declared.Held.the-variants as Held
 use Rattle.state.specs.declared.Set.{Set}

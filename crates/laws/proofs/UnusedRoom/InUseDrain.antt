@@ -11,7 +11,7 @@ use Rattle.heap.specs.declared.Heap.{Heap}
 use Rattle.heap.specs.Sound.{Sound}
 use Rattle.heap.proofs.Soundness.SoundKept.{push-sound, remove-sound}
 use Rattle.heap.specs.InUse as Heap
-use Rattle.heap.proofs.NotInUse.InUse.{push-sound-in-use, remove-sound-in-use}
+use Rattle.heap.proofs.UnusedRoom.InUse.{push-sound-in-use, remove-sound-in-use}
 use Rattle.word.specs.Rules.{generationOf}
 use Rattle.state.specs.declared.Life.{Life}
 use Rattle.state.specs.declared.Life.the-variants.{Free, Live, Cancelled, Retired}

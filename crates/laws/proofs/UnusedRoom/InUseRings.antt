@@ -21,12 +21,12 @@ use Rattle.heap.proofs.Slots.Slab.{sound-slab}
 use Rattle.heap.proofs.Slots.Kept.{pop-head, remove-len}
 use Rattle.heap.proofs.Soundness.SoundKept.{pop-sound}
 use Rattle.heap.specs.InUse as Heap
-use Rattle.heap.proofs.NotInUse.InUseWalks.{choose-ref}
-use Rattle.heap.proofs.NotInUse.InUse.{pop-sound-in-use}
+use Rattle.heap.proofs.UnusedRoom.InUseWalks.{choose-ref}
+use Rattle.heap.proofs.UnusedRoom.InUse.{pop-sound-in-use}
 use Rattle.state.specs.declared.Set.{Set}
 use Rattle.state.proofs.InUse.{over, as-over, heap-twins}
 use Rattle.moves.specs.Rules.{Ring, dueBy, rungBy, rungOf, ringFrom, advancedOf, unlistedOf, unlistFrom, poppedBy, poppedOf, emptyFrom, sealed, closedOf}
-use Rattle.laws.proofs.NotInUse.InUseDrain.{Alike, alike, by-alike, turn-alike}
+use Rattle.laws.proofs.UnusedRoom.InUseDrain.{Alike, alike, by-alike, turn-alike}
 
 -- two advances under way: sets that differ only in room not in use, the same list and the same counts
 pub record SameRing (q r : Ring) : Type 0 where

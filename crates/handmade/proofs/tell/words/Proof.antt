@@ -3,8 +3,8 @@
 use Prim.Native.Nat.{_-_, _≤_}
 use lib.ListN.{length}
 use borrow.Author.Needs.{needs}
-use Rattle.refused.proofs.tell.words.Statement.{statement}
-use Rattle.refused.proofs.tell.words.Tie as tie
+use Rattle.handmade.proofs.tell.words.Statement.{statement}
+use Rattle.handmade.proofs.tell.words.Tie as tie
 
 abbrev Inv-loop : tie.InvT-loop
 Inv-loop list i₀ t3 t4 i = i ≤ length list

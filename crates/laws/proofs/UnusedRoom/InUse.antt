@@ -12,8 +12,8 @@ use Rattle.refusals.specs.Numbers.{numberOf}
 use Rattle.refusals.specs.Answer.{Answer, accepted, refused, Outcome}
 use Rattle.heap.specs.Capacity.{cap}
 use Rattle.heap.specs.declared.Entry.{Entry}
-use Rattle.heap.proofs.NotInUse.InUseWalks.{choose-ref}
-use Rattle.heap.proofs.NotInUse.InUse.{peek-sound-in-use}
+use Rattle.heap.proofs.UnusedRoom.InUseWalks.{choose-ref}
+use Rattle.heap.proofs.UnusedRoom.InUse.{peek-sound-in-use}
 use Rattle.word.specs.Rules as Word
 use Rattle.interval.specs.declared.Policy.{Policy}
 use Rattle.interval.specs.Rules.{tickOf, restartOf}
@@ -29,9 +29,9 @@ use Rattle.timers.specs.declared.Call.the-variants as C
 use Rattle.moves.specs.Rules.{taken, lowestFree, Ring}
 use Rattle.timers.specs.Calls.{Value, nothing, handle, counts, wake, polled, time, Timing, gives, addedAt, addOf, resetTo, resetOf, cancelOf, drainOf, rang, roomy, advanceOf, turnOf, wakeBy, nextWakeOf, pollBy, pollOf, closeOf, tickedBy, tickAt, restartedBy, restartAt, with-list, step}
 use Rattle.laws.specs.InUse.{SameOutcome, SameLent}
-use Rattle.laws.proofs.NotInUse.InUseDrain.{Alike, touched-alike, drain-alike}
-use Rattle.laws.proofs.NotInUse.InUseRings.{SameRing, advanced-same, closed-alike}
-use Rattle.laws.proofs.NotInUse.InUseGuards.{kept-same, gives-same, guarded-same, open-same, alive-same}
+use Rattle.laws.proofs.UnusedRoom.InUseDrain.{Alike, touched-alike, drain-alike}
+use Rattle.laws.proofs.UnusedRoom.InUseRings.{SameRing, advanced-same, closed-alike}
+use Rattle.laws.proofs.UnusedRoom.InUseGuards.{kept-same, gives-same, guarded-same, open-same, alive-same}
 
 module _ {a b : Set} (r : Twins a b) where
   add-same : (d : ℕ) → SameOutcome Twins (addOf a d) (addOf b d)

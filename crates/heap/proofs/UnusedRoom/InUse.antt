@@ -1,5 +1,5 @@
 -- Two heaps that differ only in room not in use give the same answers, and go on differing only there: the test says the same of
--- both (`consistent-in-use` of proofs/NotInUse/InUseTest.antt), and where it says yes the calls read in use only, and store alike.
+-- both (`consistent-in-use` of proofs/UnusedRoom/InUseTest.antt), and where it says yes the calls read in use only, and store alike.
 -- Assumes nothing.
 use mathlib.Core.Path.{_≡_, refl, ap}
 use mathlib.Core.Option.{some}
@@ -25,8 +25,8 @@ use Rattle.heap.proofs.Soundness.SoundFacts.{full-back}
 use Rattle.heap.proofs.Slots.Slab.{sound-slab}
 use Rattle.heap.proofs.Soundness.Guarding.{guarded-is}
 use Rattle.heap.proofs.Testing.Test.{sound-test}
-use Rattle.heap.proofs.NotInUse.InUseTest.{consistent-in-use}
-use Rattle.heap.proofs.NotInUse.InUseWalks.{choose-ref, pushed-in-use, removed-in-use}
+use Rattle.heap.proofs.UnusedRoom.InUseTest.{consistent-in-use}
+use Rattle.heap.proofs.UnusedRoom.InUseWalks.{choose-ref, pushed-in-use, removed-in-use}
 
 module _ (g h : Heap) (r : Twins g h) where
   -- a refusal leaves both as they were

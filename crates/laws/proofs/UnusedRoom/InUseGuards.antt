@@ -7,7 +7,7 @@ use Prim.Native.Nat.{ℕ}
 use Rattle.refusals.specs.declared.Refusal.the-variants.{Unsound, Closed, DeadHandle}
 use Rattle.refusals.specs.Numbers.{numberOf}
 use Rattle.refusals.specs.Answer.{Outcome, kept}
-use Rattle.heap.proofs.NotInUse.InUseWalks.{choose-ref}
+use Rattle.heap.proofs.UnusedRoom.InUseWalks.{choose-ref}
 use Rattle.state.specs.declared.Set.{Set}
 use Rattle.state.specs.declared.Handle.{Handle}
 use Rattle.state.specs.InUse.{Twins}
@@ -16,7 +16,7 @@ use Rattle.state.proofs.Parts.{ref-passed}
 use Rattle.state.proofs.InUse.{by-heap, sound-in-use}
 use Rattle.timers.specs.Calls.{Value, Timing, gives, guarded, opened, liveAt, alive}
 use Rattle.laws.specs.InUse.{SameOutcome}
-use Rattle.laws.proofs.NotInUse.InUseDrain.{Alike}
+use Rattle.laws.proofs.UnusedRoom.InUseDrain.{Alike}
 
 -- a refusal leaves both as they were
 pub kept-same : {S : Type 0} (R : S → S → Type 0) {k j : S} → R k j → (n : ℕ) → SameOutcome R (kept k n) (kept j n)

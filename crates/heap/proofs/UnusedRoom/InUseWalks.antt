@@ -21,7 +21,7 @@ use Rattle.heap.specs.Slab.{Slab}
 use Rattle.heap.specs.InUse.{Twins}
 use Rattle.heap.proofs.AsList.Items.{choose}
 use Rattle.heap.proofs.Walking.Laws.{len-put, len-swap, len-added, len-taken, len-vacated, child-below}
-use Rattle.heap.proofs.NotInUse.InUseStores.{put-twins, short-twins, vacated-twins, swap-twins, added-twins}
+use Rattle.heap.proofs.UnusedRoom.InUseStores.{put-twins, short-twins, vacated-twins, swap-twins, added-twins}
 
 -- walks that took as many swaps, and left heaps that differ only in room not in use
 pub record SameMoved (m n : Moved) : Type 0 where

@@ -3,8 +3,8 @@
 use Prim.Native.Nat.{_-_, _≤_}
 use Rattle.heap.specs.Capacity.{cap}
 use borrow.Author.Needs.{needs}
-use Rattle.refused.proofs.heaps.full_heap.Statement.{statement}
-use Rattle.refused.proofs.heaps.full_heap.Tie as tie
+use Rattle.handmade.proofs.heaps.one_slot_more.Statement.{statement}
+use Rattle.handmade.proofs.heaps.one_slot_more.Tie as tie
 
 abbrev Inv-loop : tie.InvT-loop
 Inv-loop h₀ i₀ h i = i ≤ cap
@@ -12,8 +12,8 @@ Inv-loop h₀ i₀ h i = i ≤ cap
 abbrev μ-loop : tie.MeasureT-loop
 μ-loop h₀ i₀ h i = cap - i
 
-pub full-heap-spec : {M : Type 1} → statement M
-full-heap-spec =
+pub one-slot-more-spec : {M : Type 1} → statement M
+one-slot-more-spec =
     tie.close
     (tie.spec
     Inv-loop
@@ -21,16 +21,20 @@ full-heap-spec =
     (λ c κs. search needs)
     (λ c. search needs)
     (λ c. search needs)
-    (λ c. search needs)
-    (λ c κs. search needs)
-    (λ c. search needs)
-    (λ c. search needs)
-    (λ c. search needs)
     (λ c κs. search needs)
     (λ c. search needs)
     (λ c. search needs)
     (λ c. search needs)
     (λ c. search needs)
+    (λ c κs. search needs)
     (λ c. search needs)
     (λ c. search needs)
+    (λ c. search needs)
+    (λ c. search needs)
+    (λ c. search needs)
+    (λ c. search needs)
+    (λ c. search needs)
+    (λ c. search needs)
+    (λ c. search needs)
+    (λ c κs. search needs)
     (λ c. search needs))
