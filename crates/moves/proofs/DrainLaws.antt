@@ -1,11 +1,14 @@
 -- The drain, turn by turn: what one update makes of a set, by whose place it is, how the updates go on and end, and what they all
 -- keep.
 -- Assumes nothing.
+use mathlib.Core.Logic.{_⊎_, ⊎-elim}
 use mathlib.Core.Path.{_≡_, refl, sym, ap, _∙_}
 use mathlib.Core.List.{List}
 use Prim.Native.Nat.{ℕ, zero, suc, _≤_}
+use native.Mathlib.Omega.{arith}
 use lib.ListN.{length, List·getD-eq-default}
 use lib.Seq.{set-out}
+use denote.Enum.Declared.{tagOf}
 use Rattle.refusals.specs.Answer.{Outcome}
 use Rattle.heap.specs.declared.Slot.{Slot}
 use Rattle.heap.specs.declared.Heap.{Heap}
@@ -15,6 +18,7 @@ use Rattle.heap.specs.Sound.{Sound}
 use Rattle.heap.proofs.Soundness.SoundKept.{push-sound, remove-sound}
 use Rattle.word.specs.Rules.{generationOf}
 use Rattle.state.specs.declared.Life.{Life}
+use Rattle.state.proofs.Life.{the-type}
 use Rattle.state.specs.declared.Life.the-variants.{Free, Live, Cancelled, Retired}
 use Rattle.state.specs.declared.Waiting.the-variants.{No}
 use Rattle.state.specs.declared.Held.{Held}
@@ -54,13 +58,12 @@ module _ (s : Set) (p : ℕ) where
   abbrev idle : Life → Set
   idle l = withTimer (without s p) p (record { life = l; waiting = No; held = timerAt s p .held; uses = timerAt s p .uses })
 
-  -- a free place is only taken off the list
-  pub settled-free : timerAt s p .life ≡ Free → settledOf s p ≡ idle (timerAt s p .life)
-  settled-free e = settled-by e ∙ ap idle (sym e)
-
-  -- a retired one too
-  pub settled-retired : timerAt s p .life ≡ Retired → settledOf s p ≡ idle (timerAt s p .life)
-  settled-retired e = settled-by e ∙ ap idle (sym e)
+  -- nobody's place, by its tag of a free or of a retired one, is only taken off the list
+  pub settled-idle : (l : Life) → timerAt s p .life ≡ l → (tagOf the-type l ≡ 0) ⊎ (tagOf the-type l ≡ 3) → settledOf s p ≡ idle l
+  settled-idle Free e k = settled-by e
+  settled-idle (Live w d) e k = absurd (⊎-elim (λ q. omega arith) (λ q. omega arith) k)
+  settled-idle (Cancelled w) e k = absurd (⊎-elim (λ q. omega arith) (λ q. omega arith) k)
+  settled-idle Retired e k = settled-by e
 
   -- a place out of range ends the list
   pub settled-out : length (s .timers) ≤ p → settledOf s p ≡ withFirst s First.Nothing

@@ -79,21 +79,7 @@ fn settled(s: Set, place: Place) -> Set
                 closed: s.closed,
             }
         }
-        Life::Free => {
-            ts[p] = Timer {
-                life: l,
-                waiting: Waiting::No,
-                held: d,
-                uses: t.uses,
-            };
-            Set {
-                heap: h,
-                timers: ts,
-                first: f,
-                closed: s.closed,
-            }
-        }
-        Life::Retired => {
+        Life::Free | Life::Retired => {
             ts[p] = Timer {
                 life: l,
                 waiting: Waiting::No,

@@ -127,28 +127,36 @@ fn nothing(at: usize, out: &mut [u8; ROOM]) -> usize {
 
 // Shows a heap, and ends the line.
 fn shown(h: Heap, at: usize, out: &mut [u8; ROOM]) -> usize {
-    let n = text::mark(entries(h, text::mark(at, b'|', out), out), b'|', out);
+    let n = text::mark(entries(h, false, text::mark(at, b'|', out), out), b'|', out);
     let m = text::field(text::field(n, h.free.0 as u64, out), h.made as u64, out);
     text::end(slots(h, m, out), out)
 }
 
-// The entries by position.
-fn entries(h: Heap, at: usize, out: &mut [u8; ROOM]) -> usize {
+// A heap's entries by position, whole or in short.
+pub fn entries(h: Heap, whole: bool, at: usize, out: &mut [u8; ROOM]) -> usize {
     let mut n = at;
     let mut i: usize = 0;
     while i < heap::CAP {
         if h.len <= i {
             break;
         }
-        n = entry(h.entries[i], n, out);
+        n = entry(h.entries[i], whole, n, out);
         i += 1;
     }
     n
 }
 
-// An entry: its deadline and its slot.
-fn entry(e: Entry, at: usize, out: &mut [u8; ROOM]) -> usize {
-    text::part(text::field(at, e.at, out), e.slot.0 as u64, out)
+// An entry: its deadline and its slot; a whole one with its generation and its place between them.
+fn entry(e: Entry, whole: bool, at: usize, out: &mut [u8; ROOM]) -> usize {
+    let mut n = text::field(at, e.at, out);
+    if whole {
+        n = text::part(
+            text::part(n, e.generation as u64, out),
+            e.place.0 as u64,
+            out,
+        );
+    }
+    text::part(n, e.slot.0 as u64, out)
 }
 
 // The slots that were made.

@@ -1,9 +1,8 @@
 // The calls on a set of timers, and the lines that tell of them.
+use crate::heaps;
 use crate::record::Record;
 use crate::text;
 use crate::text::ROOM;
-use heap::Entry;
-use heap::Heap;
 use heap::Place;
 use interval::Policy;
 use refusals::Refusal;
@@ -242,7 +241,7 @@ fn shown(s: Set, at: usize, out: &mut [u8; ROOM]) -> usize {
     let m = waiting(s, text::mark(n, b'|', out), out);
     let k = places(s, text::mark(m, b'|', out), out);
     let h = s.heap;
-    text::end(entries(h, text::mark(k, b'|', out), out), out)
+    text::end(heaps::entries(h, true, text::mark(k, b'|', out), out), out)
 }
 
 // The next wake.
@@ -337,24 +336,4 @@ fn held(h: Held, at: usize, out: &mut [u8; ROOM]) -> usize {
         Held::Nothing => text::bytes(at, b":-", out),
         Held::At(slot) => text::part(at, slot.0 as u64, out),
     }
-}
-
-// The heap's entries by position.
-fn entries(h: Heap, at: usize, out: &mut [u8; ROOM]) -> usize {
-    let mut n = at;
-    let mut i: usize = 0;
-    while i < heap::CAP {
-        if h.len <= i {
-            break;
-        }
-        n = entry(h.entries[i], n, out);
-        i += 1;
-    }
-    n
-}
-
-// An entry: its deadline, generation, place and slot.
-fn entry(e: Entry, at: usize, out: &mut [u8; ROOM]) -> usize {
-    let n = text::part(text::field(at, e.at, out), e.generation as u64, out);
-    text::part(text::part(n, e.place.0 as u64, out), e.slot.0 as u64, out)
 }

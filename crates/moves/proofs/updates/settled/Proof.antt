@@ -1,13 +1,13 @@
 -- By whose place it is, the heap, the timer and the head of the list are those of `settledOf`.
 -- Assumes nothing.
-use mathlib.Core.Path.{_≡_, sym}
+use mathlib.Core.Path.{_≡_, refl, sym}
 use native.Mathlib.Omega.{arith}
 use borrow.Author.Needs.{needs}
 use lib.ListN.{length}
 use Rattle.theory.proofs.Stores.{unmapped}
 use Rattle.heap.specs.Capacity.{cap}
 use Rattle.state.specs.State.{timerAt}
-use Rattle.moves.proofs.DrainLaws.{dropped-sound, settled-by, settled-live, settled-free, settled-retired, settled-out}
+use Rattle.moves.proofs.DrainLaws.{dropped-sound, settled-by, settled-live, settled-idle, settled-out}
 use Rattle.moves.proofs.updates.settled.Statement.{statement}
 use Rattle.moves.proofs.updates.settled.Tie as tie
 
@@ -35,13 +35,8 @@ returns-3 c =
 
 returns-4 : tie.Need-returns-4
 returns-4 c =
-    let a = c .before .before .before .before .before .before .before .before .args in
-    rw (c .before .before .after .ensures) (sym (settled-free (a .s) (a .place .0) (c .enum-told2 .given .1)))
-
-returns-5 : tie.Need-returns-5
-returns-5 c =
-    let a = c .before .before .before .before .before .before .before .before .args in
-    rw (c .before .before .after .ensures) (sym (settled-retired (a .s) (a .place .0) (c .enum-told3 .given .1)))
+    let a = c .before .before .before .before .before .before .before .args in
+    rw (c .before .after .ensures) (sym (settled-idle (a .s) (a .place .0) (timerAt (a .s) (a .place .0) .life) refl (c .match .keys3)))
 
 pub settled-spec : {M : Type 1} → statement M
 settled-spec =
@@ -66,11 +61,6 @@ settled-spec =
     (λ c κs. search needs)
     (λ c. search needs)
     (λ c. search needs)
-    (λ c. search needs)
-    (λ c. search needs)
-    (λ c. search needs)
-    (λ c. search needs)
     returns-2
     returns-3
-    returns-4
-    returns-5)
+    returns-4)

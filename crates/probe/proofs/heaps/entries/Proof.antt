@@ -7,10 +7,10 @@ use Rattle.probe.proofs.heaps.entries.Statement.{statement}
 use Rattle.probe.proofs.heaps.entries.Tie as tie
 
 abbrev Inv-loop : tie.InvT-loop
-Inv-loop at out₀ h n₀ i₀ out n i = i ≤ cap
+Inv-loop whole at out₀ h n₀ i₀ out n i = i ≤ cap
 
 abbrev μ-loop : tie.MeasureT-loop
-μ-loop at out₀ h n₀ i₀ out n i = cap - i
+μ-loop whole at out₀ h n₀ i₀ out n i = cap - i
 
 pub entries-spec : {M : Type 1} → statement M
 entries-spec =
