@@ -1,0 +1,2 @@
+mod Walks
+pub mod NoSecond
