@@ -1,5 +1,5 @@
-/* Measures how much stack each public call uses: makes it, through crates/depths, on a thread whose stack is painted, and looks for
- * the deepest byte that is no longer paint.
+/* Measures how much stack each public call and query uses: makes it, through crates/depths, on a thread whose stack is painted, and
+ * looks for the deepest byte that is no longer paint.
  *
  * What is exported makes its set by other calls, writes to a lent number, makes the call that is measured, and writes to another. The
  * two numbers lie on pages that may not be written to, so each write stops the thread once, and the handler is told where its stack
@@ -20,7 +20,7 @@
 typedef uint64_t exported(uint64_t, uint64_t, uint64_t, uint64_t, uint64_t, uint64_t);
 
 exported depth_fresh, depth_add, depth_reset, depth_cancel, depth_drain, depth_advance, depth_turn, depth_next_wake, depth_poll,
-    depth_close, depth_tick, depth_restart, depth_perform;
+    depth_close, depth_tick, depth_restart, depth_time_left, depth_least_left, depth_perform;
 
 enum { STACK = 1 << 18, PAGE = 4096, WORD = 8, PAINT = 0xa5, RED_ZONE = 128, UNSOUND = 100 };
 
@@ -145,6 +145,8 @@ static const struct call calls[] = {
     { "close", depth_close, 0, { 0 }, 0 },
     { "tick", depth_tick, 3, { PLACE, LATE, LATE }, 0 },
     { "restart", depth_restart, 3, { PLACE, LATE, LATE }, 0 },
+    { "time_left", depth_time_left, 2, { PLACE, LATE }, 0 },
+    { "least_left", depth_least_left, 1, { LATE }, 0 },
 };
 
 /* The most that was seen, from the caller of the exported function on and from the call that is measured on, and the least. */

@@ -1,8 +1,9 @@
-//! Entries 1, 2, 3 and 16: clocks and sums of times.
+//! Entries 1, 2, 3, 16 and 18: clocks, and sums and differences of times.
 
 use crate::support::{due, interval, raw, tick, Set, TOO_LARGE};
 use std::task::Poll;
 use std::time::Duration;
+use wasmtimer::std::Instant;
 use wasmtimer::timer::clock::Clock;
 use wasmtimer::tokio::MissedTickBehavior::{Burst, Skip};
 
@@ -110,4 +111,30 @@ fn entry_16_the_published_counter_is_cut_to_microseconds() {
 #[test]
 fn entry_16_the_counter_handed_in_is_not_cut() {
     assert_eq!(reading(&fresh(1), 1), 1);
+}
+
+#[test]
+fn entry_18_a_timer_that_is_overdue_has_zero_left() {
+    let mut set = Set::fresh();
+    let sleep = set.add(0);
+    let reading = Instant::of_nanos(1);
+    assert_eq!(sleep.deadline() - reading, Duration::ZERO);
+    set.turn(1);
+    assert!(sleep.is_elapsed());
+    assert_eq!(sleep.deadline() - reading, Duration::ZERO);
+}
+
+#[test]
+fn entry_18_what_is_left_may_have_64_bits() {
+    let sleep = Set::fresh().add(1 << 63);
+    let left = sleep.deadline() - Instant::of_nanos(0);
+    assert_eq!(left.as_nanos(), 1 << 63);
+}
+
+#[test]
+fn entry_18_the_deadline_is_told_after_the_close() {
+    let mut set = Set::fresh();
+    let sleep = set.add(0);
+    set.close();
+    assert_eq!(sleep.deadline() - Instant::of_nanos(0), Duration::ZERO);
 }

@@ -5,6 +5,7 @@ mod answer;
 mod difference;
 mod generate;
 mod panics;
+mod queries;
 mod record;
 #[cfg(test)]
 mod rows;

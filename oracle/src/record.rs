@@ -57,6 +57,8 @@ pub struct Record {
     pub uses: u32,
     pub a: u64,
     pub b: u64,
+    /// The reading at which a set is asked how long is left, after the call.
+    pub c: u64,
 }
 
 /// The big-endian number that `bytes` has from `start` on.
@@ -76,6 +78,7 @@ impl Record {
             uses: number(bytes, 4, 4) as u32,
             a: number(bytes, 8, 8),
             b: number(bytes, 16, 8),
+            c: number(bytes, 24, 8),
         }
     }
 
@@ -88,7 +91,13 @@ impl Record {
         bytes[4..8].copy_from_slice(&self.uses.to_be_bytes());
         bytes[8..16].copy_from_slice(&self.a.to_be_bytes());
         bytes[16..24].copy_from_slice(&self.b.to_be_bytes());
+        bytes[24..32].copy_from_slice(&self.c.to_be_bytes());
         bytes
+    }
+
+    /// Whether the call is on a set.
+    pub fn is_on_set(&self) -> bool {
+        (op::ADD..=op::SET_WORD).contains(&self.op)
     }
 
     /// The handle that the record names.
@@ -157,8 +166,16 @@ impl Record {
         }
     }
 
-    /// The call in words.
+    /// The call in words, and where a set is asked how long is left.
     pub fn words(&self) -> String {
+        if self.is_on_set() {
+            return format!("{}; left at {}", self.call_in_words(), self.c);
+        }
+        self.call_in_words()
+    }
+
+    /// The call in words.
+    fn call_in_words(&self) -> String {
         let (a, b) = (self.a, self.b);
         let handle = format!("{}:{}", self.place, self.uses);
         match self.op {

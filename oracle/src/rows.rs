@@ -1,6 +1,7 @@
 //! Tests: the rows of the bench sheet, the lines of FORMAT.md, and what the driver promises. What is awaited comes from those pages.
 
 use crate::generate::{self, CALLS};
+use crate::queries::{self, Outcome, Query, OUTCOMES};
 use crate::record::{op, Handle, Policy, Record, POLICIES};
 use crate::world::World;
 
@@ -162,13 +163,106 @@ fn row_13_a_short_session() {
         answers,
         ["0 0 0 0", "0 0 1 0", "0 0 2 0", turn, "7 0 1", "2 0", "7 3"]
     );
-    assert!(lines[3].starts_with("5 0 3 3 1:0 0:0 2:0 | - |"));
+    assert!(lines[3].starts_with("5 0 3 3 1:0 0:0 2:0 | - - |"));
 }
 
 #[test]
 fn the_example_of_the_format() {
     let lines = lines(&[Record::plain(op::BEGIN), timed(op::ADD, 10)]);
-    assert_eq!(lines, ["31 0", "0 0 0 0 | - | 0 | 0:0:L:0:10:- |"]);
+    assert_eq!(lines, ["31 0", "0 0 0 0 | - 10 | 0 | 0:0:L:0:10:-:10 |"]);
+}
+
+/// The same call, after which is asked how long is left at a reading.
+fn left_at(record: Record, reading: u64) -> Record {
+    Record {
+        c: reading,
+        ..record
+    }
+}
+
+/// The least that is left, and what is left of each place, at a reading after some calls.
+fn left(calls: &[Record], reading: u64) -> Vec<String> {
+    let asking = left_at(Record::plain(op::NEXT_WAKE), reading);
+    let line = last(&[calls, &[asking]].concat());
+    let parts: Vec<&str> = line.split(" |").collect();
+    let least = parts[1].rsplit(' ').next().unwrap();
+    let places = parts[3].split_whitespace();
+    let each = places.map(|place| place.rsplit(':').next().unwrap());
+    [least].into_iter().chain(each).map(String::from).collect()
+}
+
+#[test]
+fn what_is_left_has_a_sign() {
+    let calls = each(op::ADD, &[10, 20]);
+    assert_eq!(left(&calls, 4), ["6", "6", "16"]);
+    assert_eq!(left(&calls, 10), ["0", "0", "10"]);
+    assert_eq!(left(&calls, 25), ["-15", "-15", "-5"]);
+    assert_eq!(left(&[], 25), ["-"]);
+}
+
+#[test]
+fn what_is_left_has_64_bits() {
+    let calls = each(op::ADD, &[0, u64::MAX]);
+    let (low, high) = ("-9223372036854775808", "9223372036854775807");
+    assert_eq!(left(&calls, 1 << 63), [low, low, high]);
+    let below = ["!6", "!6", "9223372036854775806"];
+    assert_eq!(left(&calls, (1 << 63) + 1), below);
+    let above = ["-9223372036854775807", "-9223372036854775807", "!6"];
+    assert_eq!(left(&calls, (1 << 63) - 1), above);
+    assert_eq!(left(&calls[1..], (1 << 63) - 1), ["!6", "!6"]);
+}
+
+#[test]
+fn the_least_counts_who_waits_and_not_who_has_fired() {
+    let mut calls = each(op::ADD, &[10, 20]);
+    calls.push(timed(op::TURN, 10));
+    assert_eq!(left(&calls, 12), ["8", "-2", "8"]);
+    calls.push(timed(op::ADD, 15));
+    assert_eq!(left(&calls, 12), ["3", "-2", "8", "3"]);
+    calls.push(Record::on(op::CANCEL, Handle { place: 2, uses: 0 }, 0));
+    assert_eq!(left(&calls, 12), ["8", "-2", "8", "!3"]);
+    calls.push(Record::on(op::RESET, FIRST, 11));
+    assert_eq!(left(&calls, 12), ["-1", "-1", "8", "!3"]);
+    calls.push(Record::plain(op::CLOSE));
+    assert_eq!(left(&calls, 12), ["!2", "!2", "!2", "!2"]);
+}
+
+#[test]
+fn the_answers_of_the_queries_are_told_apart() {
+    let all = |calls: &[Record], c| {
+        let asking = left_at(Record::plain(op::NEXT_WAKE), c);
+        queries::answers(&last(&[calls, &[asking]].concat()))
+    };
+    let mut calls = each(op::ADD, &[0, u64::MAX]);
+    calls.push(timed(op::TURN, 0));
+    use {Outcome::*, Query::*};
+    assert_eq!(
+        all(&calls, 1 << 63),
+        [
+            (Least, Highest),
+            (Place, Lowest),
+            (Fired, Lowest),
+            (Place, Highest)
+        ]
+    );
+    assert_eq!(
+        all(&calls, 0),
+        [
+            (Least, TooHigh),
+            (Place, Zero),
+            (Fired, Zero),
+            (Place, TooHigh)
+        ]
+    );
+    assert_eq!(
+        all(&calls, u64::MAX),
+        [
+            (Least, Zero),
+            (Place, TooLow),
+            (Fired, TooLow),
+            (Place, Zero)
+        ]
+    );
 }
 
 #[test]
@@ -192,7 +286,7 @@ fn a_place_is_retired_when_its_use_numbers_run_out() {
     ]
     .map(|record| world.line(&record));
     assert_eq!(answer(&lines[0]), "0 0 0 4294967295");
-    assert_eq!(lines[2], "3 0 | - | | 0:4294967295:R:-:-:- |");
+    assert_eq!(lines[2], "3 0 | - - | | 0:4294967295:R:-:-:-:!3 |");
     assert_eq!(answer(&lines[3]), "0 0 1 0");
 }
 
@@ -205,9 +299,11 @@ fn records_are_what_they_were_written_as() {
         uses: 0x0304_0506,
         a: 0x0708_090a_0b0c_0d0e,
         b: 0x0f10_1112_1314_1516,
+        c: 0x1718_191a_1b1c_1d1e,
     };
     let bytes = record.encode();
     assert_eq!(bytes[..8], [9, 2, 1, 2, 3, 4, 5, 6]);
+    assert_eq!((bytes[16], bytes[24], bytes[31]), (0x0f, 0x17, 0x1e));
     assert_eq!(Record::decode(&bytes), record);
 }
 
@@ -234,6 +330,30 @@ fn more_than_half_of_the_calls_are_accepted() {
         }
     }
     assert!(2 * accepted > calls, "{accepted} of {calls}");
+}
+
+/// But for what cannot be: there is no none of one timer, a timer that has fired is not dead, and a set is not dead.
+#[test]
+fn the_queries_are_answered_with_everything() {
+    let mut seen = Vec::new();
+    for seed in 0..20 {
+        for line in lines(&generate::records(seed, CALLS)) {
+            seen.extend(queries::answers(&line));
+        }
+    }
+    let cannot_be = [
+        (Query::Place, Outcome::Nothing),
+        (Query::Fired, Outcome::Nothing),
+        (Query::Fired, Outcome::Dead),
+        (Query::Least, Outcome::Dead),
+    ];
+    for query in [Query::Place, Query::Fired, Query::Least] {
+        for (outcome, name) in OUTCOMES {
+            let answer = (query, outcome);
+            let can_be = !cannot_be.contains(&answer);
+            assert_eq!(seen.contains(&answer), can_be, "{query:?}: {name}");
+        }
+    }
 }
 
 #[test]

@@ -71,6 +71,14 @@ impl Place {
         }
     }
 
+    /// The Rust's `Sleep` of the live timer that stands here.
+    fn sleep(&self) -> Option<&Sleep> {
+        match &self.life {
+            Life::Live { interval, .. } => Some(interval.timer()),
+            _ => None,
+        }
+    }
+
     /// Frees a cancelled place that a drain has reached, or retires it where its use numbers have run out.
     fn leave_if_drained(&mut self) {
         let drained = matches!(&self.life, Life::Cancelled { shared } if !shared.is_enqueued());
@@ -95,6 +103,16 @@ pub fn word_of(shared: &Shared) -> u32 {
 /// The deadline that the Rust's part of a timer has.
 pub fn due_of(shared: &Shared) -> Option<u128> {
     shared.at.lock().unwrap().map(|at| at.nanos())
+}
+
+/// How long a `Sleep` has to go at a reading, by the deadline that it keeps. The numbers are so wide that nothing wraps.
+fn left(sleep: &Sleep, reading: u64) -> i128 {
+    sleep.deadline().nanos() as i128 - i128::from(reading)
+}
+
+/// A number of 64 bits with a sign; any other is refused with 6.
+fn signed(left: i128) -> Result<i64, u32> {
+    i64::try_from(left).map_err(|_| refusal::TIME_OVERFLOW)
 }
 
 /// The Rust's name for a policy.
@@ -188,6 +206,24 @@ impl Set {
     pub fn wake(&self) -> Option<u128> {
         let event = self.timer.as_ref().and_then(Timer::next_event);
         event.map(|at| at.nanos())
+    }
+
+    /// How long a live timer has to go at a reading, fired or not.
+    pub fn time_left(&self, handle: Handle, reading: u64) -> Result<i64, u32> {
+        refuse_if(self.is_closed(), refusal::CLOSED)?;
+        let place = self.places.get(usize::from(handle.place));
+        let own = place.filter(|place| place.uses == handle.uses);
+        let sleep = own.and_then(Place::sleep).ok_or(refusal::DEAD_HANDLE)?;
+        signed(left(sleep, reading))
+    }
+
+    /// The least that any live timer has to go whose `Sleep` has not elapsed, or none.
+    pub fn least_left(&self, reading: u64) -> Result<Option<i64>, u32> {
+        refuse_if(self.is_closed(), refusal::CLOSED)?;
+        let live = self.places.iter().filter_map(Place::sleep);
+        let pending = live.filter(|sleep| !sleep.is_elapsed());
+        let least = pending.map(|sleep| left(sleep, reading)).min();
+        least.map(signed).transpose()
     }
 
     /// Adds a timer in the lowest free place.

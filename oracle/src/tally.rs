@@ -1,11 +1,15 @@
-//! How many calls of each kind were accepted, and how many refused with each number.
+//! How many calls of each kind were accepted, and how many refused with each number; and what the queries answered.
 
+use crate::queries::{self, OUTCOMES, QUERIES};
 use crate::record::op;
 use std::collections::BTreeMap;
 use std::io::{self, BufRead, Write};
 
 /// Stands for every operation that there is not; its line is `?`.
 const NO_CALL: u8 = 255;
+
+/// The queries stand for operations from this number on, in their order, and what they answer for outcomes.
+const FIRST_QUERY: u8 = 128;
 
 /// The names of the calls, by operation.
 const NAMES: [(u8, &str); 24] = [
@@ -54,14 +58,17 @@ fn outcome(line: &str) -> Option<(u8, u32)> {
 
 /// Reads lines from standard input and writes the counts of a family, one to a line.
 pub fn tally(family: &str) -> io::Result<()> {
-    let mut counts = Counts::new();
+    let mut counts: BTreeMap<(u8, u32), u64> = BTreeMap::new();
     for line in io::stdin().lock().lines() {
-        if let Some((op, outcome)) = outcome(&line?) {
-            *counts.entry((family.into(), op, outcome)).or_default() += 1;
+        let line = line?;
+        let asked = queries::answers(&line).into_iter();
+        let asked = asked.map(|(query, outcome)| (FIRST_QUERY + query as u8, outcome as u32));
+        for key in outcome(&line).into_iter().chain(asked) {
+            *counts.entry(key).or_default() += 1;
         }
     }
     let mut out = io::stdout().lock();
-    for ((family, op, outcome), count) in counts {
+    for ((op, outcome), count) in counts {
         writeln!(out, "{op} {outcome} {count} {family}")?;
     }
     Ok(())
@@ -77,7 +84,7 @@ fn counted(line: &str) -> Option<((String, u8, u32), u64)> {
 }
 
 /// Reads what `tally` has written from standard input and prints the tables. A begin is no call on anything, so it has no part in the
-/// totals of the families, nor has an operation that there is not.
+/// totals of the families, nor has an operation that there is not, nor a query.
 pub fn table() -> io::Result<()> {
     let mut counts = Counts::new();
     for line in io::stdin().lock().lines() {
@@ -87,6 +94,8 @@ pub fn table() -> io::Result<()> {
     }
     let mut out = io::stdout().lock();
     by_call(&counts, &mut out)?;
+    writeln!(out)?;
+    by_query(&counts, &mut out)?;
     writeln!(out)?;
     by_family(&counts, &mut out)
 }
@@ -109,16 +118,40 @@ fn by_call(counts: &Counts, out: &mut impl Write) -> io::Result<()> {
         write!(out, "{name:16}{accepted:>10}")?;
         for number in REFUSALS {
             let refused = total(counts, |_, o, outcome| o == op && outcome == number);
-            let refused = if refused == 0 {
-                String::new()
-            } else {
-                refused.to_string()
-            };
-            write!(out, "{refused:>9}")?;
+            write!(out, "{:>9}", or_blank(refused))?;
         }
         writeln!(out)?;
     }
     Ok(())
+}
+
+/// Prints a row for each query: how often it was answered with what.
+fn by_query(counts: &Counts, out: &mut impl Write) -> io::Result<()> {
+    write!(out, "{:16}", "query")?;
+    for (_, name) in OUTCOMES {
+        write!(out, "{name:>9}")?;
+    }
+    writeln!(out)?;
+    for (query, name) in QUERIES {
+        write!(out, "{name:16}")?;
+        for (answer, _) in OUTCOMES {
+            let asked = total(counts, |_, op, outcome| {
+                op == FIRST_QUERY + query as u8 && outcome == answer as u32
+            });
+            write!(out, "{:>9}", or_blank(asked))?;
+        }
+        writeln!(out)?;
+    }
+    Ok(())
+}
+
+/// A count, and nothing for 0.
+fn or_blank(count: u64) -> String {
+    if count == 0 {
+        String::new()
+    } else {
+        count.to_string()
+    }
 }
 
 /// Prints a row for each family and one for all: how many calls, and which share of them was accepted.
@@ -146,7 +179,7 @@ fn share(
     test: impl Fn(&str) -> bool,
     out: &mut impl Write,
 ) -> io::Result<()> {
-    let is_call = |op| op != op::BEGIN && op != NO_CALL;
+    let is_call = |op| op < op::BEGIN;
     let calls = total(counts, |f, op, _| test(f) && is_call(op));
     let accepted = total(counts, |f, op, o| test(f) && is_call(op) && o == 0);
     let percent = 100.0 * accepted as f64 / calls.max(1) as f64;

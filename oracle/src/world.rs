@@ -79,7 +79,7 @@ impl World {
             Err(number) => line.part(number),
         }
         match r.op {
-            op::ADD..=op::SET_WORD => line.set(&self.set),
+            op::ADD..=op::SET_WORD => line.set(&self.set, r.c),
             op::PUSH..=op::TEST => line.heap(&self.heap),
             op::FRESH..=op::CLOCK_ADVANCE => line.clock(&self.clock),
             _ => {}
@@ -156,17 +156,18 @@ impl Line {
         }
     }
 
-    /// Writes the state of a set.
-    fn set(&mut self, set: &Set) {
+    /// Writes the state of a set, with how long is left at a reading.
+    fn set(&mut self, set: &Set, reading: u64) {
         self.part('|');
         self.part_or_none(set.wake());
+        self.part(or_refused(set.least_left(reading).map(or_none)));
         self.part('|');
         for place in set.waiting() {
             self.part(place);
         }
         self.part('|');
         for (index, place) in set.places.iter().enumerate() {
-            self.place(set, index, place);
+            self.place(set, index, place, reading);
         }
         self.part('|');
         for (at, gen, place, slot) in set.entries() {
@@ -175,7 +176,7 @@ impl Line {
     }
 
     /// Writes a place, but for a free one that nobody had yet.
-    fn place(&mut self, set: &Set, index: usize, place: &Place) {
+    fn place(&mut self, set: &Set, index: usize, place: &Place, reading: u64) {
         let life = match place.life {
             Life::Free if place.uses == 0 => return,
             Life::Free => 'F',
@@ -188,7 +189,14 @@ impl Line {
         let due = or_none(shared.and_then(due_of));
         let slot = or_none(shared.and_then(|shared| set.slot_of(shared)));
         let uses = place.uses;
-        self.part(format_args!("{index}:{uses}:{life}:{word}:{due}:{slot}"));
+        let handle = Handle {
+            place: index as u16,
+            uses,
+        };
+        let left = or_refused(set.time_left(handle, reading));
+        self.part(format_args!(
+            "{index}:{uses}:{life}:{word}:{due}:{slot}:{left}"
+        ));
     }
 
     /// Writes the state of a heap alone.
@@ -223,4 +231,12 @@ impl Line {
 /// A number, or `-` for none.
 fn or_none(part: Option<impl Display>) -> String {
     part.map_or("-".into(), |part| part.to_string())
+}
+
+/// What was answered, or `!` and the number of the refusal.
+fn or_refused(answer: Result<impl Display, u32>) -> String {
+    match answer {
+        Ok(answer) => answer.to_string(),
+        Err(number) => format!("!{number}"),
+    }
 }

@@ -1,4 +1,4 @@
--- The measured calls have no second answer.
+-- The measured calls and queries have no second answer.
 -- Assumes nothing.
 use Prim.Native.Nat.{ℕ}
 use Rattle.theory.specs.Promise.{NoSecond}
@@ -7,10 +7,11 @@ use Rattle.theory.proofs.Promise.{by-rule, plain-apart}
 use Rattle.interval.specs.declared.Policy.the-variants.{Skip}
 use Rattle.state.specs.State.{freshOf}
 use Rattle.timers.specs.Calls.{gives, nothing, addOf, resetOf, cancelOf, drainOf, advanceOf, turnOf, nextWakeOf, pollOf, closeOf, tickAt, restartAt, step}
-use Rattle.depths.specs.Rules.{handleAt, callIn, builtOf, plain, blank, Seen, seenOf}
-use Rattle.depths.specs.Promises.{Fresh, Adds, Resets, Cancels, Drains, Advances, Turns, Wakes, Polls, Closes, Ticks, Restarts, Performs}
+use Rattle.timers.specs.Left.{timeLeftOf, leastLeftOf}
+use Rattle.depths.specs.Rules.{handleAt, callIn, builtOf, plain, blank, Seen, seenOf, seenAnswer}
+use Rattle.depths.specs.Promises.{Fresh, Adds, Resets, Cancels, Drains, Advances, Turns, Wakes, Polls, Closes, Ticks, Restarts, TellsLeft, TellsLeast, Performs}
 
--- what is seen is the whole answer, and each promise is that it is what the rule of the call gives
+-- what is seen is the whole answer, and each promise is that it is what the rule of the call, or of the query, gives
 
 pub fresh-no-second : NoSecond (λ (q : Nothing) (r : Seen). Fresh (r .answer) (r .before) (r .after))
 fresh-no-second = by-rule (λ (r : Seen). r) (λ (q : Nothing). seenOf (gives freshOf nothing)) plain-apart
@@ -47,6 +48,12 @@ tick-no-second = by-rule (λ (r : Seen). r) (λ (q : ℕ × ℕ × ℕ × ℕ). 
 
 pub restart-no-second : NoSecond (λ (q : ℕ × ℕ × ℕ × ℕ) (r : Seen). Restarts (q .0) (q .1) (q .2) (q .3) (r .answer) (r .before) (r .after))
 restart-no-second = by-rule (λ (r : Seen). r) (λ (q : ℕ × ℕ × ℕ × ℕ). seenOf (restartAt (builtOf (q .0)) (handleAt (q .1)) (q .2) (q .3))) plain-apart
+
+pub time-left-no-second : NoSecond (λ (q : ℕ × ℕ × ℕ) (r : Seen). TellsLeft (q .0) (q .1) (q .2) (r .answer) (r .before) (r .after))
+time-left-no-second = by-rule (λ (r : Seen). r) (λ (q : ℕ × ℕ × ℕ). seenAnswer (timeLeftOf (builtOf (q .0)) (handleAt (q .1)) (q .2))) plain-apart
+
+pub least-left-no-second : NoSecond (λ (q : ℕ × ℕ) (r : Seen). TellsLeast (q .0) (q .1) (r .answer) (r .before) (r .after))
+least-left-no-second = by-rule (λ (r : Seen). r) (λ (q : ℕ × ℕ). seenAnswer (leastLeftOf (builtOf (q .0)) (q .1))) plain-apart
 
 pub perform-no-second : NoSecond (λ (q : ℕ × ℕ × ℕ × ℕ) (r : Seen). Performs (q .0) (q .1) (q .2) (q .3) (r .answer) (r .before) (r .after))
 perform-no-second = by-rule (λ (r : Seen). r) (λ (q : ℕ × ℕ × ℕ × ℕ). seenOf (plain (step (builtOf (q .0)) (callIn (q .1) (q .2) (q .3)) blank))) plain-apart

@@ -1,5 +1,5 @@
--- What the measured calls promise of their answer r and of the lent numbers b and a as they are at the end: the number of the
--- outcome that the rule of the call gives on the set that was asked for.
+-- What the measured calls and queries promise of their answer r and of the lent numbers b and a as they are at the end: the number of
+-- the outcome that the rule of the call, or of the query, gives on the set that was asked for.
 -- Assumes nothing.
 use mathlib.Core.Path.{_≡_}
 use Prim.Native.Nat.{ℕ}
@@ -7,7 +7,8 @@ use Rattle.interval.specs.declared.Policy.the-variants.{Skip}
 use Rattle.state.specs.State.{freshOf}
 use Rattle.timers.specs.declared.After.{After}
 use Rattle.timers.specs.Calls.{gives, nothing, addOf, resetOf, cancelOf, drainOf, advanceOf, turnOf, nextWakeOf, pollOf, closeOf, tickAt, restartAt, step, told}
-use Rattle.depths.specs.Rules.{handleAt, callIn, builtOf, toldOf, plain, blank, seen, seenOf}
+use Rattle.timers.specs.Left.{timeLeftOf, leastLeftOf}
+use Rattle.depths.specs.Rules.{handleAt, callIn, builtOf, toldOf, plain, blank, seen, seenOf, seenAnswer}
 
 abbrev pub Fresh : ℕ → ℕ → ℕ → Type 0
 Fresh r b a = seen r b a ≡ seenOf (gives freshOf nothing)
@@ -44,6 +45,12 @@ Ticks x p period N r b a = seen r b a ≡ seenOf (tickAt (builtOf x) (handleAt p
 
 abbrev pub Restarts : ℕ → ℕ → ℕ → ℕ → ℕ → ℕ → ℕ → Type 0
 Restarts x p period N r b a = seen r b a ≡ seenOf (restartAt (builtOf x) (handleAt p) period N)
+
+abbrev pub TellsLeft : ℕ → ℕ → ℕ → ℕ → ℕ → ℕ → Type 0
+TellsLeft x p N r b a = seen r b a ≡ seenAnswer (timeLeftOf (builtOf x) (handleAt p) N)
+
+abbrev pub TellsLeast : ℕ → ℕ → ℕ → ℕ → ℕ → Type 0
+TellsLeast x N r b a = seen r b a ≡ seenAnswer (leastLeftOf (builtOf x) N)
 
 abbrev pub Performs : ℕ → ℕ → ℕ → ℕ → ℕ → ℕ → ℕ → Type 0
 Performs x n p v r b a = seen r b a ≡ seenOf (plain (step (builtOf x) (callIn n p v) blank))

@@ -1,5 +1,5 @@
--- The rules of the calls that are measured: the set that each is made on, and the number that is told of its answer. What each call
--- does is in the rules of `timers`.
+-- The rules of the calls and queries that are measured: the set that each is made on, and the number that is told of its answer. What
+-- each does is in the rules of `timers`.
 -- Assumes nothing.
 use mathlib.Core.Bool.{cond}
 use mathlib.Core.List.{List, [], _∷_}
@@ -57,7 +57,7 @@ unfoldable pub builtOf : ℕ → Set
 builtOf x = eachOf (x / 16777216) (eachOf (x / 65536) (eachOf (x / 256) (eachOf x freshOf)))
 
 -- 0 for what is accepted, and the number of a refusal
-abbrev pub codeIn : Answer Value → ℕ
+abbrev pub codeIn : {A : Type 0} → Answer A → ℕ
 codeIn (accepted v) = 0
 codeIn (refused n) = n
 
@@ -85,3 +85,7 @@ seen r b a = record { answer = r; before = b; after = a }
 -- both numbers are 1 in the end
 abbrev pub seenOf : Outcome Set Value → Seen
 seenOf o = seen (toldOf o) 1 1
+
+-- and of a query, which hands no set back
+abbrev pub seenAnswer : {A : Type 0} → Answer A → Seen
+seenAnswer a = seen (codeIn a) 1 1

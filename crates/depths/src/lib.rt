@@ -1,19 +1,23 @@
-// Each public call made once, on a set in a state that is asked for, for the measurement of the stack in bench/: a set that holds
-// enums cannot be lent to Rust or C, so what is exported makes its set itself, and answers one number.
+// Each public call and query made once, on a set in a state that is asked for, for the measurement of the stack in bench/: a set that
+// holds enums cannot be lent to Rust or C, so what is exported makes its set itself, and answers one number.
 //
 // Before the call and after it a lent number is written to. Whoever measures lends numbers that it can see written to, and so tells
 // what the call used from what was used to make the set and to look at the answer.
 use heap::Place;
 use interval::Policy;
+use refusals::time::Left;
 use state::Handle;
 use state::Set;
 use timers::After;
 use timers::Call;
 use timers::Reply;
+use timers::left::Least;
 ghost use mathlib.Core.Path.{_≡_};
+ghost use Rattle.refusals.specs.Times.{saidLeft};
 ghost use Rattle.timers.specs.Calls.{said};
+ghost use Rattle.timers.specs.Left.{saidLeast};
 ghost use Rattle.depths.specs.Rules.{handleAt, callIn, madeOf, eachOf, builtOf, codeIn};
-ghost use Rattle.depths.specs.Promises.{Tells, Fresh, Adds, Resets, Cancels, Drains, Advances, Turns, Wakes, Polls, Closes, Ticks, Restarts, Performs};
+ghost use Rattle.depths.specs.Promises.{Tells, Fresh, Adds, Resets, Cancels, Drains, Advances, Turns, Wakes, Polls, Closes, Ticks, Restarts, TellsLeft, TellsLeast, Performs};
 
 // A fresh set.
 #[no_mangle]
@@ -173,6 +177,39 @@ pub extern "C" fn depth_restart(
     told(a)
 }
 
+#[no_mangle]
+pub extern "C" fn depth_time_left(
+    stages: u64,
+    place: u16,
+    reading: u64,
+    before: &mut u64,
+    after: &mut u64,
+) -> u64
+    ensures { λ r. ⌜ TellsLeft stages place reading r (now (before .exit)) (now (after .exit)) ⌝ }
+{
+    let s = built(stages);
+    *before = 1;
+    let l = timers::left::time_left(s, handle(place), reading);
+    *after = 1;
+    code_left(l)
+}
+
+#[no_mangle]
+pub extern "C" fn depth_least_left(
+    stages: u64,
+    reading: u64,
+    before: &mut u64,
+    after: &mut u64,
+) -> u64
+    ensures { λ r. ⌜ TellsLeast stages reading r (now (before .exit)) (now (after .exit)) ⌝ }
+{
+    let s = built(stages);
+    *before = 1;
+    let l = timers::left::least_left(s, reading);
+    *after = 1;
+    code_least(l)
+}
+
 // Any call, by its number.
 #[no_mangle]
 pub extern "C" fn depth_perform(
@@ -211,6 +248,27 @@ fn code(reply: Reply) -> u64
     match reply {
         Reply::Refused(why) => refusals::number(why) as u64,
         _ => 0,
+    }
+}
+
+// The same of a time left. A query hands no set back, so this is all that is answered of it.
+fn code_left(left: Left) -> u64
+    ensures { λ r. ⌜ r ≡ codeIn (saidLeft left) ⌝ }
+{
+    match left {
+        Left::Nanos(_) => 0,
+        Left::Refused(why) => refusals::number(why) as u64,
+    }
+}
+
+// And of a least left.
+fn code_least(least: Least) -> u64
+    ensures { λ r. ⌜ r ≡ codeIn (saidLeast least) ⌝ }
+{
+    match least {
+        Least::Nothing => 0,
+        Least::Nanos(_) => 0,
+        Least::Refused(why) => refusals::number(why) as u64,
     }
 }
 

@@ -8,8 +8,10 @@ use heap::Peeked;
 use heap::Pushed;
 use heap::Removed;
 use libc::STDOUT_FILENO;
+use refusals::time::Left;
 use refusals::time::Time;
 use timers::Reply;
+use timers::left::Least;
 use word::Polled;
 
 // Writes a text.
@@ -21,6 +23,14 @@ pub fn text(s: &[u8]) {
 fn number(before: &[u8], n: u64) {
     io::write_all(STDOUT_FILENO, before);
     io::print_decimal(STDOUT_FILENO, n);
+}
+
+// Writes a number that may be below zero.
+fn signed(n: i64) {
+    if n < 0 {
+        text(b"-");
+    }
+    number(b"", refusals::time::size(n));
 }
 
 // Writes what a poll found.
@@ -101,6 +111,25 @@ pub fn time(t: Time) {
     match t {
         Time::At(at) => number(b"", at),
         Time::Refused(why) => number(b"refused ", refusals::number(why) as u64),
+    }
+    text(b"\n");
+}
+
+// Writes what a time left answered, and ends the line.
+pub fn left(l: Left) {
+    match l {
+        Left::Nanos(n) => signed(n),
+        Left::Refused(why) => number(b"refused ", refusals::number(why) as u64),
+    }
+    text(b"\n");
+}
+
+// Writes what a least left answered, and ends the line.
+pub fn least(l: Least) {
+    match l {
+        Least::Nothing => text(b"none"),
+        Least::Nanos(n) => signed(n),
+        Least::Refused(why) => number(b"refused ", refusals::number(why) as u64),
     }
     text(b"\n");
 }

@@ -7,3 +7,4 @@ pub mod PastLaws
 pub mod ByHandleCalls
 pub mod ByHandleSteps
 pub mod Ever
+pub mod Pending

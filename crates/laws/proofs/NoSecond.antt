@@ -1,14 +1,17 @@
--- No call on a set of timers has a second answer: neither another set, nor another word about it, nor another list.
+-- No call on a set of timers has a second answer: neither another set, nor another word about it, nor another list. Nor has either query.
 -- Assumes nothing.
 use mathlib.Core.Path.{_≡_, refl, ap}
 use mathlib.Core.Option.{Option, none, some}
 use mathlib.Core.List.{List, [], _∷_}
 use Prim.Native.Nat.{ℕ}
 use lib.ListN.{getD}
+use lib.IntN.{ℤ}
 use Rattle.theory.specs.Promise.{NoSecond, TellsApart}
 use Rattle.theory.proofs.Promise.{by-rule, undone-apart}
 use Rattle.refusals.specs.Answer.{Answer, accepted, refused, Outcome}
-use Rattle.refusals.proofs.Apart.{refusalOf, refusal-back}
+use Rattle.refusals.specs.declared.time.Left.{Left}
+use Rattle.refusals.specs.Times.{saidLeft}
+use Rattle.refusals.proofs.Apart.{refusalOf, refusal-back, left-apart}
 use Rattle.word.specs.declared.Polled.{Polled}
 use Rattle.word.specs.declared.Polled.the-variants as P
 use Rattle.interval.specs.declared.Policy.{Policy}
@@ -19,7 +22,10 @@ use Rattle.timers.specs.declared.Reply.{Reply}
 use Rattle.timers.specs.declared.Reply.the-variants as R
 use Rattle.timers.specs.declared.After.{After}
 use Rattle.timers.specs.Calls.{Value, nothing, handle, counts, wake, polled, time, Lent, said, told, toldWith, addOf, resetOf, cancelOf, drainOf, advanceOf, turnOf, nextWakeOf, pollOf, closeOf, tickAt, restartAt, step}
-use Rattle.timers.specs.Promises.{Adds, Resets, Cancels, Drains, Advances, Turns, Wakes, Polls, Closes, Ticks, Restarts, Performs}
+use Rattle.timers.specs.declared.left.Least.{Least}
+use Rattle.timers.specs.declared.left.Least.the-variants as L
+use Rattle.timers.specs.Left.{timeLeftOf, leastLeftOf, saidLeast}
+use Rattle.timers.specs.Promises.{Adds, Resets, Cancels, Drains, Advances, Turns, Wakes, Polls, Closes, Ticks, Restarts, Performs, TellsLeft, TellsLeast}
 
 -- the case of a poll's number
 abbrev polledBy : ℕ → Polled
@@ -113,3 +119,24 @@ turn-no-second = by-rule toldBoth (λ (q : Set × ℕ × List ℕ). turnOf (q .0
 
 pub perform-no-second : NoSecond (λ (q : Set × Call × List ℕ) (r : After × List ℕ). Performs (q .0) (q .1) (q .2) (r .0) (r .1))
 perform-no-second = by-rule toldBoth (λ (q : Set × Call × List ℕ). step (q .0) (q .1) (q .2)) told-with-apart
+
+-- the queries
+
+pub least-apart : TellsApart saidLeast
+least-apart = undone-apart saidLeast leastBack back
+  where
+    leastBack : Answer (Option ℤ) → Least
+    leastBack (accepted none) = L.Nothing
+    leastBack (accepted (some z)) = L.Nanos z
+    leastBack (refused n) = L.Refused (refusalOf n)
+
+    back : (r : Least) → leastBack (saidLeast r) ≡ r
+    back L.Nothing = refl
+    back (L.Nanos z) = refl
+    back (L.Refused r) = ap L.Refused (refusal-back r)
+
+pub time-left-no-second : NoSecond (λ (q : Set × Handle × ℕ) (r : Left). TellsLeft (q .0) (q .1) (q .2) r)
+time-left-no-second = by-rule saidLeft (λ (q : Set × Handle × ℕ). timeLeftOf (q .0) (q .1) (q .2)) left-apart
+
+pub least-left-no-second : NoSecond (λ (q : Set × ℕ) (r : Least). TellsLeast (q .0) (q .1) r)
+least-left-no-second = by-rule saidLeast (λ (q : Set × ℕ). leastLeftOf (q .0) (q .1)) least-apart

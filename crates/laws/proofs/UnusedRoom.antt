@@ -3,3 +3,4 @@ pub mod InUseDrain
 pub mod InUseRings
 pub mod InUseGuards
 pub mod InUse
+pub mod InUseLeft

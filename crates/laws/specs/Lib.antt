@@ -6,3 +6,4 @@ pub mod InUse
 pub mod Reports
 pub mod EntryOf
 pub mod Rooms
+pub mod Pending

@@ -13,6 +13,8 @@ pub struct Record {
     pub uses: u32,
     pub a: u64,
     pub b: u64,
+    // the reading at which a set is asked how long is left
+    pub c: u64,
 }
 
 // The record that some bytes begin with.
@@ -26,6 +28,7 @@ pub fn first(s: &[u8]) -> Record
         uses: four(two(s[4], s[5]), two(s[6], s[7])),
         a: eight(&s[8..16]),
         b: eight(&s[16..24]),
+        c: eight(&s[24..32]),
     }
 }
 

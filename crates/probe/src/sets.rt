@@ -6,6 +6,7 @@ use crate::text::ROOM;
 use heap::Place;
 use interval::Policy;
 use refusals::Refusal;
+use refusals::time::Left;
 use state::First;
 use state::Handle;
 use state::Held;
@@ -17,6 +18,7 @@ use state::Waiting;
 use timers::After;
 use timers::Call;
 use timers::Reply;
+use timers::left::Least;
 use word::Polled;
 
 // Every bit of a state word but the invalid mark.
@@ -42,8 +44,8 @@ pub struct Kept {
 // Makes the call of a record on a set and tells of it.
 pub fn told(s: Set, r: Record, at: usize, out: &mut [u8; ROOM]) -> Kept {
     match wish_of(r) {
-        Wish::Call(call) => performed(s, r.op, call, at, out),
-        Wish::Word { handle, word } => reworded(s, r.op, handle, word, at, out),
+        Wish::Call(call) => performed(s, r, call, at, out),
+        Wish::Word { handle, word } => reworded(s, r, handle, word, at, out),
         Wish::Unknown => Kept {
             set: s,
             at: text::unknown(at, out),
@@ -52,27 +54,27 @@ pub fn told(s: Set, r: Record, at: usize, out: &mut [u8; ROOM]) -> Kept {
 }
 
 // Makes a call, with a list of the length that an advance asks for, and tells of it.
-fn performed(s: Set, op: u8, call: Call, at: usize, out: &mut [u8; ROOM]) -> Kept {
+fn performed(s: Set, r: Record, call: Call, at: usize, out: &mut [u8; ROOM]) -> Kept {
     let mut list = [0u64; heap::CAP];
     let a = timers::perform(s, call, &mut list);
     let reply = a.reply;
-    let n = answer(reply, &list, text::number(at, op as u64, out), out);
+    let n = answer(reply, &list, text::number(at, r.op as u64, out), out);
     let g = a.set;
     Kept {
         set: g,
-        at: shown(g, n, out),
+        at: shown(g, r.c, n, out),
     }
 }
 
 // Gives a live timer another state word, and tells of it.
-fn reworded(s: Set, op: u8, handle: Handle, word: u32, at: usize, out: &mut [u8; ROOM]) -> Kept {
+fn reworded(s: Set, r: Record, handle: Handle, word: u32, at: usize, out: &mut [u8; ROOM]) -> Kept {
     let a = with_word(s, handle, word);
     let reply = a.reply;
-    let n = done(reply, text::number(at, op as u64, out), out);
+    let n = done(reply, text::number(at, r.op as u64, out), out);
     let g = a.set;
     Kept {
         set: g,
-        at: shown(g, n, out),
+        at: shown(g, r.c, n, out),
     }
 }
 
@@ -235,11 +237,12 @@ fn name(word: u64, at: usize, out: &mut [u8; ROOM]) -> usize {
     }
 }
 
-// Shows a set, and ends the line.
-fn shown(s: Set, at: usize, out: &mut [u8; ROOM]) -> usize {
+// Shows a set, with how long is left at a reading, and ends the line.
+fn shown(s: Set, reading: u64, at: usize, out: &mut [u8; ROOM]) -> usize {
     let n = wake(s, text::mark(at, b'|', out), out);
-    let m = waiting(s, text::mark(n, b'|', out), out);
-    let k = places(s, text::mark(m, b'|', out), out);
+    let l = least(timers::left::least_left(s, reading), n, out);
+    let m = waiting(s, text::mark(l, b'|', out), out);
+    let k = places(s, reading, text::mark(m, b'|', out), out);
     let h = s.heap;
     text::end(heaps::entries(h, true, text::mark(k, b'|', out), out), out)
 }
@@ -252,6 +255,16 @@ fn wake(s: Set, at: usize, out: &mut [u8; ROOM]) -> usize {
         Reply::WakeAt(wake) => text::field(at, wake, out),
         Reply::NoWake => text::mark(at, b'-', out),
         _ => text::mark(at, b'?', out),
+    }
+}
+
+// The least that is left, or none.
+fn least(l: Least, at: usize, out: &mut [u8; ROOM]) -> usize {
+    let n = text::byte(at, b' ', out);
+    match l {
+        Least::Nothing => text::byte(n, b'-', out),
+        Least::Nanos(nanos) => text::signed(n, nanos, out),
+        Least::Refused(why) => text::barred(n, why, out),
     }
 }
 
@@ -290,28 +303,49 @@ fn next(t: Timer) -> usize {
     }
 }
 
-// The places that are not as in a fresh set.
-fn places(s: Set, at: usize, out: &mut [u8; ROOM]) -> usize {
+// The places that are not as in a fresh set, each with how long its timer has to go at a reading.
+fn places(s: Set, reading: u64, at: usize, out: &mut [u8; ROOM]) -> usize {
     let mut n = at;
     let mut p: usize = 0;
     while p < heap::CAP {
-        n = place(p as u64, s.timers[p], n, out);
+        let t = s.timers[p];
+        if used(t) {
+            let handle = Handle {
+                place: Place(p as u16),
+                uses: t.uses,
+            };
+            n = place(p as u64, t, n, out);
+            n = left(timers::left::time_left(s, handle, reading), n, out);
+        }
         p += 1;
     }
     n
 }
 
+// Whether a place is not as in a fresh set.
+fn used(t: Timer) -> bool {
+    let l = t.life;
+    if let Life::Free = l {
+        return t.uses != 0;
+    }
+    true
+}
+
 // A place: its number, its use number, whose it is, the state word, the deadline and the slot.
 fn place(p: u64, t: Timer, at: usize, out: &mut [u8; ROOM]) -> usize {
     let l = t.life;
-    if let Life::Free = l {
-        if t.uses == 0 {
-            return at;
-        }
-    }
     let h = t.held;
     let n = text::part(text::field(at, p, out), t.uses as u64, out);
     held(h, life(l, n, out), out)
+}
+
+// How long a timer has to go.
+fn left(l: Left, at: usize, out: &mut [u8; ROOM]) -> usize {
+    let n = text::byte(at, b':', out);
+    match l {
+        Left::Nanos(nanos) => text::signed(n, nanos, out),
+        Left::Refused(why) => text::barred(n, why, out),
+    }
 }
 
 // Whose a place is, with the state word and the deadline.

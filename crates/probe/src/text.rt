@@ -35,6 +35,15 @@ pub fn number(at: usize, x: u64, out: &mut [u8; ROOM]) -> usize {
     bytes(at, &digits[..k], out)
 }
 
+// Puts a signed number in decimal.
+pub fn signed(at: usize, x: i64, out: &mut [u8; ROOM]) -> usize {
+    let mut n = at;
+    if x < 0 {
+        n = byte(n, b'-', out);
+    }
+    number(n, refusals::time::size(x), out)
+}
+
 // Puts a blank and a byte.
 pub fn mark(at: usize, b: u8, out: &mut [u8; ROOM]) -> usize {
     byte(byte(at, b' ', out), b, out)
@@ -58,6 +67,11 @@ pub fn accepted(at: usize, out: &mut [u8; ROOM]) -> usize {
 // Puts a blank and the number of a refusal.
 pub fn refused(at: usize, why: Refusal, out: &mut [u8; ROOM]) -> usize {
     field(at, refusals::number(why) as u64, out)
+}
+
+// Puts an exclamation mark and the number of a refusal.
+pub fn barred(at: usize, why: Refusal, out: &mut [u8; ROOM]) -> usize {
+    number(byte(at, b'!', out), refusals::number(why) as u64, out)
 }
 
 // Ends the line.

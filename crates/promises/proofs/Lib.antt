@@ -12,6 +12,7 @@ pub mod Meeting
 pub mod Engine
 pub mod Functions
 pub mod Timeouts
+pub mod Display
 pub mod Bound
 pub mod States
 pub mod Clauses

@@ -13,8 +13,9 @@ use Rattle.state.specs.declared.Set.{Set}
 use Rattle.timers.specs.declared.Call.{Call}
 use Rattle.timers.specs.declared.Call.the-variants as C
 use Rattle.timers.specs.Calls.{step, addOf, resetOf, cancelOf, drainOf, advanceOf, turnOf, nextWakeOf, pollOf, closeOf, tickAt, restartAt}
-use Rattle.promises.specs.Table.{Asked, heap-push, heap-remove, heap-pop, heap-peek, on-set, clock-reading, clock-pause, clock-resume, clock-advance, a-record, Gives, answerTo, refusalIn, rowsOn, rowsOf, heldIn, rowb, inTurn, firstIn, firstRow, Decides}
+use Rattle.promises.specs.Table.{Asked, heap-push, heap-remove, heap-pop, heap-peek, on-set, time-left, least-left, clock-reading, clock-pause, clock-resume, clock-advance, a-record, Gives, answerTo, refusalIn, rowsOn, rowsOf, heldIn, rowb, inTurn, firstIn, firstRow, Decides}
 use Rattle.promises.proofs.Refusing.Rows.{unsound-row, closed-row, dead-row, full-row, short-row, ticked-row, restarted-row}
+use Rattle.promises.proofs.Refusing.RowsLeft.{time-left-row, least-left-row}
 use Rattle.promises.proofs.Refusing.RowsHeap.{inconsistent-row, push-row, remove-row, pop-row, peek-row}
 use Rattle.promises.proofs.Refusing.RowsClock.{reading-row, pause-row, advance-row}
 use Rattle.promises.proofs.Refusing.RowsRecord.{record-row}
@@ -39,6 +40,8 @@ table (on-set s C.Close l) = unsound-row s s _ _ (closed-row s s _ _ refl)
 table (on-set s (C.Tick h p period N) l) = unsound-row s s _ _ (closed-row s s _ _ (dead-row s h _ _ (ticked-row s h p period N)))
 table (on-set s (C.Restart h period N) l) =
     unsound-row s s _ _ (closed-row s s _ _ (dead-row s h _ _ (λ t e f. restarted-row s h period N t)))
+table (time-left s h N) = time-left-row s h N
+table (least-left s N) = least-left-row s N
 table (clock-reading (Running base start) raw) = reading-row base start raw
 table (clock-reading (Paused base) raw) = refl
 table (clock-pause (Running base start) raw) = pause-row base start raw
@@ -79,6 +82,8 @@ all-in-turn (heap-remove h s) = refl
 all-in-turn (heap-pop h) = refl
 all-in-turn (heap-peek h) = refl
 all-in-turn (on-set s c l) = set-in-turn s c l
+all-in-turn (time-left s h N) = refl
+all-in-turn (least-left s N) = refl
 all-in-turn (clock-reading c raw) = refl
 all-in-turn (clock-pause c raw) = refl
 all-in-turn (clock-resume c raw) = refl

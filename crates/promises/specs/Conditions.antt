@@ -105,6 +105,28 @@ lateSum Skip T period N = N + period
 abbrev pub tickSum : Policy → ℕ → ℕ → ℕ → ℕ
 tickSum p T period N = cond (lateAt T N) (lateSum p T period N) (T + period)
 
+-- 6 TimeOverflow, of a time left: the deadline minus the reading is above 2^63-1, or below -2^63
+abbrev pub farAhead : ℕ → ℕ → Bool
+farAhead d N = leb (N + 2 ^ 63) d
+
+abbrev pub farBehind : ℕ → ℕ → Bool
+farBehind d N = ltb (d + 2 ^ 63) N
+
+abbrev pub far : ℕ → ℕ → Bool
+far d N = farBehind d N || farAhead d N
+
+-- 6 TimeOverflow, of the least time left: of the live timers that have not fired one is far behind, or there is one and all are far ahead
+abbrev pub unfiredAt : Set → ℕ → Bool
+unfiredAt s p = not (notLive (timerAt s p .life)) && not (firedIn (wordIn (timerAt s p .life)))
+
+abbrev pub anywhere : (ℕ → Bool) → Bool
+anywhere f = ltb 0 (count f cap)
+
+abbrev pub leastFar : Set → ℕ → Bool
+leastFar s N =
+    anywhere (λ p. unfiredAt s p && farBehind (dueIn (timerAt s p .life)) N)
+    || (anywhere (unfiredAt s) && not (anywhere (λ p. unfiredAt s p && not (farAhead (dueIn (timerAt s p .life)) N))))
+
 -- OF A HEAP
 
 -- 1 Unsound: the heap does not pass its test

@@ -8,6 +8,7 @@ pub mod Traces
 pub mod Otherwise
 pub mod Useless
 pub mod Timeouts
+pub mod Display
 pub mod Bound
 pub mod Clauses
 pub mod States

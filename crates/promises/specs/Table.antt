@@ -8,6 +8,7 @@ use mathlib.Core.Option.{Option, none, some}
 use mathlib.Core.List.{List, [], _∷_, _++_}
 use Prim.Native.Nat.{ℕ, _+_}
 use lib.Dec.{eqb}
+use lib.IntN.{ℤ}
 use Rattle.theory.specs.Counting.{Mem}
 use Rattle.refusals.specs.Answer.{Answer, accepted, refused, Nothing}
 use Rattle.heap.specs.declared.Slot.{Slot}
@@ -18,22 +19,26 @@ use Rattle.heap.specs.Calls.{Off, pushOf, removeOf, popOf, peekOf}
 use Rattle.clock.specs.declared.Clock.{Clock}
 use Rattle.clock.specs.Rules.{readingOf, pauseOf, resumeOf, advanceOf}
 use Rattle.state.specs.declared.Set.{Set}
+use Rattle.state.specs.declared.Handle.{Handle}
 use Rattle.timers.specs.declared.Call.{Call}
 use Rattle.timers.specs.declared.Call.the-variants as C
 use Rattle.timers.specs.Calls.{Value, step}
+use Rattle.timers.specs.Left.{timeLeftOf, leastLeftOf}
 use Rattle.records.specs.Records.{fieldsOf, decodeOf}
-use Rattle.promises.specs.Conditions.{unsound, shut, lifeAt, dead, full, short, dueIn, notFired, zeroPeriod, above, tickSum, inconsistent, holdsAll, vacant, stopped, runs, behind, readAbove, sumAbove, bad}
+use Rattle.promises.specs.Conditions.{unsound, shut, lifeAt, dead, full, short, dueIn, notFired, zeroPeriod, above, tickSum, far, leastFar, inconsistent, holdsAll, vacant, stopped, runs, behind, readAbove, sumAbove, bad}
 
 -- WHAT IS ASKED
 
--- every call that the table names, with all that it is given: the heap's calls, a call on a set with the list that is lent, the
--- clock's calls, and a record to be decoded, by its bytes
+-- every call that the table names, with all that it is given: the heap's calls, a call on a set with the list that is lent, the two
+-- queries of a set, the clock's calls, and a record to be decoded, by its bytes
 pub data Asked : Type 0 where
   heap-push : Heap → ℕ → ℕ → Place → Asked
   heap-remove : Heap → Slot → Asked
   heap-pop : Heap → Asked
   heap-peek : Heap → Asked
   on-set : Set → Call → List ℕ → Asked
+  time-left : Set → Handle → ℕ → Asked
+  least-left : Set → ℕ → Asked
   clock-reading : Clock → ℕ → Asked
   clock-pause : Clock → ℕ → Asked
   clock-resume : Clock → ℕ → Asked
@@ -47,6 +52,8 @@ Gives (heap-remove h s) = Off
 Gives (heap-pop h) = Off
 Gives (heap-peek h) = Option Entry
 Gives (on-set s c l) = Value
+Gives (time-left s h N) = ℤ
+Gives (least-left s N) = Option ℤ
 Gives (clock-reading c raw) = ℕ
 Gives (clock-pause c raw) = Nothing
 Gives (clock-resume c raw) = Nothing
@@ -60,6 +67,8 @@ answerTo (heap-remove h s) = removeOf h s .answer
 answerTo (heap-pop h) = popOf h .answer
 answerTo (heap-peek h) = peekOf h
 answerTo (on-set s c l) = step s c l .answer
+answerTo (time-left s h N) = timeLeftOf s h N
+answerTo (least-left s N) = leastLeftOf s N
 answerTo (clock-reading c raw) = readingOf c raw
 answerTo (clock-pause c raw) = pauseOf c raw .answer
 answerTo (clock-resume c raw) = resumeOf c raw .answer
@@ -96,6 +105,8 @@ rowsOf (heap-remove h s) = (1, inconsistent h) ∷ (11, vacant h s) ∷ []
 rowsOf (heap-pop h) = (1, inconsistent h) ∷ []
 rowsOf (heap-peek h) = (1, inconsistent h) ∷ []
 rowsOf (on-set s c l) = rowsOn s c l
+rowsOf (time-left s h N) = (1, unsound s) ∷ (2, shut s) ∷ (3, dead s h) ∷ (6, far (dueIn (lifeAt s h)) N) ∷ []
+rowsOf (least-left s N) = (1, unsound s) ∷ (2, shut s) ∷ (6, leastFar s N) ∷ []
 rowsOf (clock-reading c raw) = (7, behind c raw) ∷ (6, readAbove c raw) ∷ []
 rowsOf (clock-pause c raw) = (8, stopped c) ∷ (7, behind c raw) ∷ (6, readAbove c raw) ∷ []
 rowsOf (clock-resume c raw) = (8, runs c) ∷ []

@@ -1,2 +1,5 @@
 pub mod Apart
+pub mod Differences
+mod Sizes
 pub mod Times
+pub mod Rows

@@ -1,14 +1,12 @@
 // Every call on a set: on a sound one, on an unsound one, which refuses each with 1, and on a closed one, which refuses all but two with
 // 2. The calls are made by `perform`, which makes each by its own function. Then what a handle and a tick are refused for.
+use crate::sets::closed;
+use crate::sets::handle;
+use crate::sets::with_timer;
 use handmade::tell;
-use heap::Place;
 use interval::Policy;
 use state::Handle;
-use state::Held;
-use state::Life;
 use state::Set;
-use state::Timer;
-use state::Waiting;
 use timers::Call;
 
 // What the set is, which call is made, and what it answers.
@@ -19,14 +17,6 @@ fn call(what: &[u8], name: &[u8], s: Set, c: Call) {
     let a = timers::perform(s, c, &mut list);
     let r = a.reply;
     tell::reply(r);
-}
-
-// The handle 0:0.
-fn zero() -> Handle {
-    Handle {
-        place: Place(0),
-        uses: 0,
-    }
 }
 
 // The calls that take neither a handle nor a reading.
@@ -75,51 +65,28 @@ fn handle_calls(what: &[u8], s: Set, h: Handle) {
 fn all_calls(what: &[u8], s: Set) {
     plain_calls(what, s);
     readings(what, s);
-    handle_calls(what, s, zero());
+    handle_calls(what, s, handle(0, 0));
 }
 
-// A set with one live timer of this word and deadline 5, which neither waits nor has an entry.
+// A set with one live timer of this word and deadline 5.
 fn with_word(word: u32) -> Set {
-    let mut s = state::fresh();
-    s.timers[0] = Timer {
-        life: Life::Live { word, due: 5 },
-        waiting: Waiting::No,
-        held: Held::Nothing,
-        uses: 0,
-    };
-    s
-}
-
-// The set closed.
-fn closed(s: Set) -> Set {
-    let mut g = s;
-    g.closed = true;
-    g
+    with_timer(word, 5)
 }
 
 // Handles that are dead: past the places, of a free place, and with another use number.
 fn dead_handles() {
-    let past = Handle {
-        place: Place(heap::CAP as u16),
-        uses: 0,
-    };
+    let past = handle(heap::CAP as u16, 0);
     handle_calls(b"a handle past the places: ", with_word(1), past);
-    let nobody = Handle {
-        place: Place(1),
-        uses: 0,
-    };
+    let nobody = handle(1, 0);
     handle_calls(b"a handle of a free place: ", with_word(1), nobody);
-    let other = Handle {
-        place: Place(0),
-        uses: 1,
-    };
+    let other = handle(0, 1);
     handle_calls(b"a handle of another use: ", with_word(1), other);
 }
 
 // A tick with Skip of 0:0 in a set with a timer of this word.
 fn skip(what: &[u8], word: u32, period: u64, reading: u64) {
     let c = Call::Tick {
-        handle: zero(),
+        handle: handle(0, 0),
         policy: Policy::Skip,
         period,
         reading,

@@ -1,5 +1,6 @@
 // Report lists: one with a word too few is refused with 5, after a close with 2; of a longer one only the words of the reports are
 // written, and in a refused call none. Before each call the words of a list are 100, 101 and so on.
+use crate::sets::added;
 use handmade::tell;
 use state::Set;
 use timers::Reply;
@@ -55,13 +56,6 @@ fn long_turn(what: &[u8], s: Set) {
     let a = timers::turn(s, 64, &mut list);
     let r = a.reply;
     told(what, r, &list);
-}
-
-// A set after an add.
-fn added(s: Set, due: u64) -> Set {
-    let a = timers::add(s, due);
-    let g = a.set;
-    g
 }
 
 // A set with a timer at every place, due at 1, 2 and so on, by the calls.

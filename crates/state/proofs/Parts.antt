@@ -10,7 +10,7 @@ use Rattle.theory.specs.Tests.{Ref, holds, fails}
 use Rattle.theory.specs.Counting.{count}
 use Rattle.theory.specs.Chain.{chainOkb, noFault}
 use Rattle.theory.specs.First.{firstBad}
-use Rattle.theory.proofs.Tests.{ref-and, ref-map, ref-true, true-ref, none-some}
+use Rattle.theory.proofs.Tests.{ref-and, ref-map, ref-true, true-ref, none-some, and-left, and-right}
 use Rattle.theory.proofs.First.{none-all, all-none}
 use Rattle.theory.proofs.ChainFault.{fault-walk}
 use Rattle.heap.specs.Capacity.{cap}
@@ -85,6 +85,10 @@ module _ (s : Set) where
       go : (o : Option ℕ) → firstBad (placeOk s) cap 0 ≡ o → Ref ((p : ℕ) → p < cap → PlaceFine s p) (noFault o)
       go none e = holds (λ p l. ref-true (ref-place s p) (none-all (placeOk s) cap 0 e p (omega arith) (omega arith)))
       go (some j) e = fails (λ a. none-some (all-none (placeOk s) cap 0 (λ p z l. true-ref (ref-place s p) (a p (omega arith)))) e)
+
+  -- of a set that passes, every place does, however long its arrays are
+  pub places-fine : soundOf s ≡ true → (p : ℕ) → p < cap → PlaceFine s p
+  places-fine e = ref-true ref-places (and-left _ _ (and-right listTest _ (and-right (Heaps.consistentOf (s .heap)) _ (tested ∙ e))))
 
   -- all that the test tells
   pub record Passed : Type 0 where

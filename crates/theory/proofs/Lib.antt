@@ -20,3 +20,4 @@ pub mod Logarithm
 pub mod Swaps
 pub mod Pops
 pub mod First
+pub mod Least

@@ -10,3 +10,4 @@ pub mod Walks
 pub mod Weights
 pub mod Logarithm
 pub mod First
+pub mod Least

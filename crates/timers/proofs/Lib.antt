@@ -1,4 +1,5 @@
 pub mod Guarding
 pub mod Alive
 pub mod Sounding
+pub mod Shortest
 pub mod Lending

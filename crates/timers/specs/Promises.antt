@@ -5,6 +5,8 @@ use mathlib.Core.Bool.{false}
 use mathlib.Core.List.{List}
 use Prim.Native.Nat.{ℕ}
 use Rattle.refusals.specs.declared.Refusal.{Refusal}
+use Rattle.refusals.specs.declared.time.Left.{Left}
+use Rattle.refusals.specs.Times.{saidLeft}
 use Rattle.interval.specs.declared.Policy.{Policy}
 use Rattle.state.specs.declared.Set.{Set}
 use Rattle.state.specs.declared.Handle.{Handle}
@@ -12,7 +14,9 @@ use Rattle.timers.specs.declared.Call.{Call}
 use Rattle.timers.specs.declared.Guard.{Guard}
 use Rattle.timers.specs.declared.Door.{Door}
 use Rattle.timers.specs.declared.After.{After}
+use Rattle.timers.specs.declared.left.Least.{Least}
 use Rattle.timers.specs.Calls.{saidGuard, guardOf, openOf, saidDoor, doorOf, living, liveAt, resetTo, refusing, addOf, resetOf, cancelOf, drainOf, advanceOf, turnOf, nextWakeOf, pollOf, closeOf, tickAt, restartAt, step, told, toldWith}
+use Rattle.timers.specs.Left.{timeLeftOf, leastLeftOf, saidLeast}
 
 abbrev pub Adds : Set → ℕ → After → Type 0
 Adds s d r = told r ≡ addOf s d
@@ -49,6 +53,13 @@ Restarts s h period N r = told r ≡ restartAt s h period N
 
 abbrev pub Performs : Set → Call → List ℕ → After → List ℕ → Type 0
 Performs s c l r l′ = toldWith r l′ ≡ step s c l
+
+-- the two queries, which hand no set back
+abbrev pub TellsLeft : Set → Handle → ℕ → Left → Type 0
+TellsLeft s h N r = saidLeft r ≡ timeLeftOf s h N
+
+abbrev pub TellsLeast : Set → ℕ → Least → Type 0
+TellsLeast s N r = saidLeast r ≡ leastLeftOf s N
 
 -- and the functions inside
 

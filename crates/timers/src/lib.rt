@@ -2,6 +2,8 @@
 //
 // Every call takes any set. It tests the set's soundness first, then whether it may be made; a call that is refused hands back the
 // set, and leaves the lent list as it was. `perform` makes a call by its name.
+pub mod left;
+
 use interval::Policy;
 use refusals::Refusal;
 use refusals::time::Time;

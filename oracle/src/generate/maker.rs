@@ -10,6 +10,8 @@ use wasmtimer::timer::heap::look::Seen;
 /// A maker of calls and what it has made so far.
 pub struct Maker {
     pub dice: Dice,
+    /// For the readings at which is asked how long is left; the calls do not go by them.
+    asking: Dice,
     pub world: World,
     pub records: Vec<Record>,
     /// The time at which a session has arrived.
@@ -23,6 +25,7 @@ impl Maker {
     pub fn new(seed: u64) -> Maker {
         Maker {
             dice: Dice::new(seed),
+            asking: Dice::new(!seed),
             world: World::fresh(),
             records: Vec::new(),
             now: 0,
@@ -30,10 +33,55 @@ impl Maker {
         }
     }
 
-    /// Makes a call, and tells what it answers.
+    /// Makes a call, and tells what it answers. How long is left is asked at a reading of the maker's choice.
     pub fn call(&mut self, record: Record) -> Option<Answer> {
-        self.records.push(record);
-        self.world.call(&record)
+        let answer = self.world.call(&record);
+        let c = if record.is_on_set() { self.asked() } else { 0 };
+        self.records.push(Record { c, ..record });
+        answer
+    }
+
+    /// Makes a call after which is asked how long is left at a given reading.
+    pub fn call_at(&mut self, record: Record, reading: u64) {
+        self.world.call(&record);
+        self.records.push(Record {
+            c: reading,
+            ..record
+        });
+    }
+
+    /// A reading at which so much is left until a deadline of the set: nothing, little, about as much as a number with a sign can be, or
+    /// anything. Where no reading is so far away it is the first or the last of all.
+    fn asked(&mut self) -> u64 {
+        let Some(due) = self.some_due() else {
+            return self.asking.any();
+        };
+        let few = i128::from(self.asking.below(4));
+        let left = match self.asking.below(16) {
+            0..=2 => 0,
+            3..=5 => few,
+            6..=8 => -few,
+            9 => i128::from(i64::MIN),
+            10 => i128::from(i64::MIN) - few,
+            11 => i128::from(i64::MAX),
+            12 => i128::from(i64::MAX) + few,
+            13 => return self.asking.any(),
+            _ => i128::from(self.asking.below(20_000_000)) - 10_000_000,
+        };
+        let reading = i128::from(due) - left;
+        reading.clamp(0, i128::from(u64::MAX)) as u64
+    }
+
+    /// The deadline of a live timer; in half of the cases the earliest of those that have not fired.
+    fn some_due(&mut self) -> Option<u64> {
+        let pending = self.live_where(|word| word & 1 == 0);
+        let earliest = pending.iter().filter_map(|handle| self.due(*handle)).min();
+        if earliest.is_some() && self.asking.percent(50) {
+            return earliest;
+        }
+        let live = self.live();
+        let one = (!live.is_empty()).then(|| self.asking.one_of(&live));
+        one.and_then(|handle| self.due(handle))
     }
 
     /// Begins a sequence.

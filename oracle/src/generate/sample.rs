@@ -31,6 +31,9 @@ pub fn records() -> Vec<Record> {
         interval_resets,
         closed,
         closed_early,
+        left_by_sign,
+        left_at_the_edges,
+        left_until_the_close,
         heap_full,
         heap_refusals,
         heap_ties,
@@ -90,6 +93,13 @@ fn poll(m: &mut Maker, handle: Handle) {
 /// The word of a timer set.
 fn word(m: &mut Maker, handle: Handle, word: u64) {
     m.call(Record::on(op::SET_WORD, handle, word));
+}
+
+/// How long is left, asked at some readings after calls that change nothing.
+fn left(m: &mut Maker, readings: &[u64]) {
+    for reading in readings {
+        m.call_at(Record::plain(op::NEXT_WAKE), *reading);
+    }
 }
 
 /// Removals of slots of the heap alone.
@@ -362,6 +372,51 @@ fn closed_early(m: &mut Maker) {
     word(m, FIRST, 5);
     plain(m, &[op::CLOSE]);
     poll(m, FIRST);
+}
+
+/// What is left is below zero once a timer is overdue, fired or not; the least counts those that have not fired, drained or not.
+fn left_by_sign(m: &mut Maker) {
+    left(m, &[0, u64::MAX]);
+    add(m, &[10, 20]);
+    left(m, &[0, 9, 10, 11, 20, 25]);
+    timed(m, op::TURN, &[10]);
+    left(m, &[10, 12, 20, 21]);
+    add(m, &[15]);
+    left(m, &[12, 15, 16]);
+    cancel(m, at(1, 0));
+    left(m, &[12]);
+    cancel(m, at(2, 0));
+    left(m, &[12]);
+    plain(m, &[op::DRAIN]);
+    left(m, &[12]);
+    reset(m, FIRST, 11);
+    left(m, &[12]);
+}
+
+/// What is left has 64 bits with a sign: beyond them it is refused on either side, and the least only where it is itself beyond them.
+fn left_at_the_edges(m: &mut Maker) {
+    let (half, top) = (1 << 63, u64::MAX);
+    add(m, &[0, top]);
+    left(m, &[0, half - 2, half - 1, half, half + 1, top]);
+    timed(m, op::TURN, &[0]);
+    left(m, &[0, half - 1, half, half + 1, top]);
+    reset(m, at(1, 0), half);
+    left(m, &[0, 1, half, top]);
+    reset(m, at(1, 0), half - 1);
+    left(m, &[0, top]);
+    reset(m, at(1, 0), half - 2);
+    left(m, &[0, top - 1, top]);
+}
+
+/// A closed set refuses to say what is left, of live timers and of dead ones.
+fn left_until_the_close(m: &mut Maker) {
+    add(m, &[1, 2, 3]);
+    timed(m, op::TURN, &[1]);
+    cancel(m, at(1, 0));
+    plain(m, &[op::DRAIN]);
+    left(m, &[2]);
+    plain(m, &[op::CLOSE]);
+    left(m, &[0, 2, u64::MAX]);
 }
 
 /// The heap is full at 64.

@@ -7,10 +7,10 @@ use Rattle.probe.proofs.sets.places.Statement.{statement}
 use Rattle.probe.proofs.sets.places.Tie as tie
 
 abbrev Inv-loop : tie.InvT-loop
-Inv-loop at out₀ s n₀ p₀ out n p = p ≤ cap
+Inv-loop reading at out₀ s n₀ p₀ out n p = p ≤ cap
 
 abbrev μ-loop : tie.MeasureT-loop
-μ-loop at out₀ s n₀ p₀ out n p = cap - p
+μ-loop reading at out₀ s n₀ p₀ out n p = cap - p
 
 pub places-spec : {M : Type 1} → statement M
 places-spec =
@@ -20,6 +20,10 @@ places-spec =
     μ-loop
     (λ c. search needs)
     (λ c. search needs)
+    (λ c. search needs)
+    (λ c. search needs)
+    (λ c. search needs)
+    (λ c κs. search needs)
     (λ c. search needs)
     (λ c κs. search needs)
     (λ c. search needs)
