@@ -6,8 +6,9 @@ use Prim.Native.Nat.{ℕ, _-_}
 use lib.Dec.{ltb, leb, eqb}
 use Rattle.theory.specs.Order.{parent}
 use Rattle.theory.specs.Counting.{count}
-use Rattle.theory.specs.Chain.{unless, faultAt}
+use Rattle.theory.specs.Chain.{unless}
 use Rattle.theory.specs.First.{firstBad}
+use Rattle.theory.specs.WrongStep.{wrongStep}
 use Rattle.heap.specs.Capacity.{cap}
 use Rattle.heap.specs.declared.SlotState.{SlotState}
 use Rattle.heap.specs.declared.SlotState.the-variants.{Full, Empty}
@@ -82,9 +83,10 @@ positionFault h = faultBy misplaced (firstBad (positionOk h) (h .len) 0)
 unfoldable pub orderFault : Heap → Fault
 orderFault h = faultBy disordered (firstBad (orderOk h) (h .len - 1) 1)
 
--- the free chain visits each empty slot once and ends at the number of slots: the step along it where it does not
+-- the free chain visits each empty slot once and ends at the number of slots: the first step along it that meets a slot that was not
+-- made, that is full or that was met before, or at which it has ended while an empty slot is missing
 unfoldable pub chainFault : Heap → Fault
-chainFault h = faultBy FreeChain (faultAt (emptyAt h) (nextAt h) (count (emptyAt h) (h .made)) 0 (unless (h .made) (h .free .0)))
+chainFault h = faultBy FreeChain (wrongStep (emptyAt h) (nextAt h) (h .made) (unless (h .made) (h .free .0)))
 
 unfoldable pub faultOf : Heap → Fault
 faultOf h = orElse (countFault h) (orElse (positionFault h) (orElse (orderFault h) (chainFault h)))

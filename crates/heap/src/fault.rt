@@ -123,17 +123,22 @@ fn order_fault(h: Heap) -> Fault
     Fault::No
 }
 
-// The step at which the free chain meets a slot that is not empty, ends too soon, or goes on too long.
+// The first step at which the free chain meets a slot that was not made, is full or was met before, ends too soon, or goes on too
+// long. It marks the slots that it meets: a loop is noticed where it closes.
 fn chain_fault(h: Heap) -> Fault
     requires { ⌜ Counted h ⌝ }
     ensures { λ r. ⌜ r ≡ chainFault h ⌝ }
 {
-    let mut left = h.made - h.len;
+    let n = h.made - h.len;
+    let mut met = [false; CAP];
     let mut step: usize = 0;
     let mut at = h.free;
-    while 0 < left {
+    while step < n {
         let s = at.0 as usize;
         if h.made <= s {
+            return Fault::FreeChain(step);
+        }
+        if met[s] {
             return Fault::FreeChain(step);
         }
         let x = h.slots[s];
@@ -141,8 +146,8 @@ fn chain_fault(h: Heap) -> Fault
         let SlotState::Empty(next) = st else {
             return Fault::FreeChain(step);
         };
+        met[s] = true;
         at = next;
-        left -= 1;
         step += 1;
     }
     let end = at.0 as usize;

@@ -7,12 +7,11 @@ use Prim.Native.Nat.{ℕ, _<_}
 use native.Mathlib.Omega.{arith}
 use lib.ListN.{length}
 use Rattle.theory.specs.Tests.{Ref, holds, fails}
-use Rattle.theory.specs.Counting.{count}
 use Rattle.theory.specs.Chain.{chainOkb, noFault}
 use Rattle.theory.specs.First.{firstBad}
 use Rattle.theory.proofs.Tests.{ref-and, ref-map, ref-true, true-ref, none-some, and-left, and-right}
 use Rattle.theory.proofs.First.{none-all, all-none}
-use Rattle.theory.proofs.ChainFault.{fault-walk}
+use Rattle.theory.proofs.WrongStep.{wrong-none}
 use Rattle.heap.specs.Capacity.{cap}
 use Rattle.heap.specs.declared.fault.Fault as HF
 use Rattle.heap.specs.declared.fault.Fault.the-variants as H
@@ -24,6 +23,7 @@ use Rattle.state.specs.declared.fault.Fault.{Fault}
 use Rattle.state.specs.declared.fault.Fault.the-variants.{No, Count, Position, Order, FreeChain, List, Place}
 use Rattle.state.specs.State.{headOf}
 use Rattle.state.specs.Faults.{heapFault, waitsAt, afterAt, listScan, placeOk, lower, entryScan, firstPlace, placeScan, atPlace, faultBy, orElse, faultOf, isNo, soundOf}
+use Rattle.state.proofs.ListLaws.{waits-below}
 use Rattle.state.proofs.PlaceTest.{ref-self, PlaceFine, EntryFine, ref-place, ref-entries}
 
 -- there is no first fault where there is neither of the two
@@ -61,8 +61,8 @@ module _ (s : Set) where
   listTest = chainOkb (waitsAt s) (afterAt s) cap (headOf (s .first))
 
   list-no : noFault (listScan s) ≡ listTest
-  unfolding listScan chainOkb
-  list-no = fault-walk (waitsAt s) (afterAt s) (count (waitsAt s) cap) 0 (headOf (s .first))
+  unfolding listScan
+  list-no = wrong-none (waitsAt s) (afterAt s) (headOf (s .first)) cap (waits-below s)
 
   -- the four parts of the test
   tested : Heaps.consistentOf (s .heap) && (listTest && (noFault (firstPlace s) && noFault (entryScan s (s .heap .len)))) ≡ soundOf s

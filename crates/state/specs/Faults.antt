@@ -5,9 +5,8 @@ use mathlib.Core.Bool.{Bool, true, false, not, cond, _&&_, _||_}
 use mathlib.Core.Option.{Option, none, some}
 use Prim.Native.Nat.{ℕ, zero, suc, _^_, min}
 use lib.Dec.{ltb, eqb}
-use Rattle.theory.specs.Counting.{count}
-use Rattle.theory.specs.Chain.{faultAt}
 use Rattle.theory.specs.First.{firstBad}
+use Rattle.theory.specs.WrongStep.{wrongStep}
 use Rattle.heap.specs.Capacity.{cap}
 use Rattle.heap.specs.declared.Heap.{Heap}
 use Rattle.heap.specs.declared.Entry.{Entry}
@@ -47,9 +46,10 @@ waitsAt s p = ltb p cap && isWaiting (timerAt s p .waiting)
 unfoldable pub afterAt : Set → ℕ → Option ℕ
 afterAt s p = nextIn (timerAt s p .waiting)
 
--- the list holds exactly the waiting timers, each once: the step along it where it does not
+-- the list holds exactly the waiting timers, each once: the first step along it that meets a place out of range, a timer that does
+-- not wait or one that was met before, or at which it has ended while a waiting timer is missing
 unfoldable pub listScan : Set → Option ℕ
-listScan s = faultAt (waitsAt s) (afterAt s) (count (waitsAt s) cap) 0 (headOf (s .first))
+listScan s = wrongStep (waitsAt s) (afterAt s) cap (headOf (s .first))
 
 abbrev pub isNothing : Held → Bool
 isNothing Held.Nothing = true

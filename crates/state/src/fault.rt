@@ -117,16 +117,17 @@ fn waiting_count(s: Set) -> usize
     n
 }
 
-// The step along the waiting list at which it meets a timer that does not wait, ends too soon, or goes on too long, where n wait.
-// The caller counts them, so that the copies of the set for the count and for the walk do not lie on the stack at once.
+// The first step at which the waiting list meets a place out of range, a timer that does not wait or one that was met before, ends
+// too soon, or goes on too long, where n wait. It marks the places that it meets: a loop is noticed where it closes. The caller counts
+// the timers, so that the copies of the set for the count and for the walk do not lie on the stack at once.
 fn list_scan(s: Set, n: usize) -> Walk
     requires { ⌜ n ≡ count (waitsAt s) cap ⌝ }
     ensures { λ r. ⌜ walked r ≡ listScan s ⌝ }
 {
-    let mut left = n;
+    let mut met = [false; heap::CAP];
     let mut step: usize = 0;
     let mut at = s.first;
-    while 0 < left {
+    while step < n {
         let First::At(place) = at else {
             return Walk::At(step);
         };
@@ -134,13 +135,16 @@ fn list_scan(s: Set, n: usize) -> Walk
         if heap::CAP <= p {
             return Walk::At(step);
         }
+        if met[p] {
+            return Walk::At(step);
+        }
         let t = s.timers[p];
         let w = t.waiting;
         if !waits(w) {
             return Walk::At(step);
         }
+        met[p] = true;
         at = after(w);
-        left -= 1;
         step += 1;
     }
     if let First::Nothing = at {

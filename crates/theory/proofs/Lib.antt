@@ -8,7 +8,11 @@ pub mod Occurs
 pub mod Chain
 pub mod ChainTest
 pub mod ChainChange
-pub mod ChainFault
+pub mod WrongRows
+pub mod Steps
+pub mod FineTo
+pub mod WrongStep
+pub mod WrongTurns
 pub mod Order
 pub mod Weights
 pub mod Exchange

@@ -4,7 +4,7 @@ use mathlib.Core.Path.{_≡_, refl, sym, _∙_, ap, subst}
 use mathlib.Core.Logic.{inl, inr, ⊎-elim}
 use mathlib.Core.Bool.{Bool, true, false, not, and-true, and-false}
 use mathlib.Core.List.{List, [], _∷_}
-use Prim.Native.Nat.{ℕ, suc, _<_}
+use Prim.Native.Nat.{ℕ, suc, _<_, _≤_}
 use native.Mathlib.Decide.{ℕ-discrete}
 use native.Mathlib.Omega.{arith}
 use lib.Dec.{eqb}
@@ -46,6 +46,12 @@ pigeonhole (x ∷ l) f n d h e i b t =
           (pigeonhole l (but f x) n (d .1) (but-sound f n x l d h)
           (omega (arith, e, count-but f n x (h x (inl refl) .0) (h x (inl refl) .1))) i b (but-other f x i q ∙ t))
     ]
+
+-- a list that repeats nothing and names only numbers that pass is no longer than their count
+pub few : (l : List ℕ) (f : ℕ → Bool) (n : ℕ) → Distinct l → ((y : ℕ) → Mem y l → (y < n) × (f y ≡ true)) → length l ≤ count f n
+few [] f n d h = omega arith
+few (x ∷ l) f n d h =
+    omega (arith, few l (but f x) n (d .1) (but-sound f n x l d h), count-but f n x (h x (inl refl) .0) (h x (inl refl) .1))
 
 -- a list that names each number that passes once, and no other, is as long as their count
 pub lists-length : (l : List ℕ) (f : ℕ → Bool) (n : ℕ) → Lists f n l → length l ≡ count f n

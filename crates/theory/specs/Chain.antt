@@ -1,13 +1,12 @@
--- Nodes that are numbers, linked into a chain: what a chain is, the test of one, and where it goes wrong first. Throughout, `next`
--- is the node that a node names, if any, and `ok` the test that each node has to pass. A walk counts the nodes that it has yet to
--- meet, so it needs no memory of those that it met.
+-- Nodes that are numbers, linked into a chain: what a chain is, and the test of one. Throughout, `next` is the node that a node
+-- names, if any, and `ok` the test that each node has to pass. A walk counts the nodes that it has yet to meet, so for a yes or no it
+-- needs no memory of those that it met.
 -- Assumes nothing.
 use mathlib.Core.Path.{_≡_}
-use mathlib.Core.Logic.{_⊎_}
 use mathlib.Core.Bool.{Bool, true, false, _&&_, cond}
 use mathlib.Core.Option.{Option, none, some}
 use mathlib.Core.List.{List, [], _∷_}
-use Prim.Native.Nat.{ℕ, zero, suc, _+_, _<_}
+use Prim.Native.Nat.{ℕ, zero, suc}
 use lib.Dec.{eqb}
 use Rattle.theory.specs.Counting.{count}
 
@@ -41,25 +40,7 @@ chainOkb ok next cap h = walkb ok next (count ok cap) h
 unfoldable pub chainOf : (ℕ → Bool) → (ℕ → Option ℕ) → ℕ → Option ℕ → List ℕ
 chainOf ok next cap h = nodes next (count ok cap) h
 
--- where a walk that should have n more nodes goes wrong first, counted from k: a node that does not pass, an end too soon, or a
--- node too many; none where it does not
-unfoldable pub faultAt : (ℕ → Bool) → (ℕ → Option ℕ) → ℕ → ℕ → Option ℕ → Option ℕ
-faultAt ok next zero k none = none
-faultAt ok next zero k (some x) = some k
-faultAt ok next (suc n) k none = some k
-faultAt ok next (suc n) k (some x) = cond (ok x) (faultAt ok next n (k + 1) (next x)) (some k)
-
 -- yes where no fault was found
 abbrev pub noFault : Option ℕ → Bool
 noFault none = true
 noFault (some k) = false
-
--- the walk from h goes through the list's nodes, all of which pass, and stands at m then
-abbrev pub Runs : (ℕ → Bool) → (ℕ → Option ℕ) → Option ℕ → List ℕ → Option ℕ → Type 0
-Runs ok next h [] m = h ≡ m
-Runs ok next h (x ∷ l) m = (h ≡ some x) × (ok x ≡ true) × Runs ok next (next x) l m
-
--- why a walk with r nodes to go cannot go on from m: it has ended, or the node does not pass, or none was to come
-abbrev pub Wrong : (ℕ → Bool) → ℕ → Option ℕ → Type 0
-Wrong ok r none = 0 < r
-Wrong ok r (some x) = (ok x ≡ false) ⊎ (r ≡ 0)

@@ -4,6 +4,7 @@ pub mod Update
 pub mod Counting
 pub mod Occurs
 pub mod Chain
+pub mod WrongStep
 pub mod Order
 pub mod Heap
 pub mod Walks

@@ -11,11 +11,12 @@ use borrow.Author.Tests.{ltb-true, eqb-true, not-true}
 use Rattle.theory.specs.Tests.{Ref, holds, fails}
 use Rattle.theory.specs.Order.{parent}
 use Rattle.theory.specs.Counting.{count}
-use Rattle.theory.specs.Chain.{unless, chainOkb, noFault, faultAt}
+use Rattle.theory.specs.Chain.{unless, chainOkb, noFault}
 use Rattle.theory.specs.First.{firstBad}
+use Rattle.theory.specs.WrongStep.{wrongStep}
 use Rattle.theory.proofs.Tests.{ref-by, ref-le, ref-eq, ref-and, ref-map, ref-true, true-false, none-some, and-left, and-right}
 use Rattle.theory.proofs.First.{none-all, all-none}
-use Rattle.theory.proofs.ChainFault.{fault-walk}
+use Rattle.theory.proofs.WrongStep.{wrong-none}
 use Rattle.heap.specs.Capacity.{cap}
 use Rattle.heap.specs.declared.SlotState.{SlotState}
 use Rattle.heap.specs.declared.SlotState.the-variants.{Full, Empty}
@@ -25,6 +26,7 @@ use Rattle.heap.specs.declared.fault.Fault.the-variants.{No, Count, Posi
 use Rattle.heap.specs.Rules.{entryAt, stateAt, slotAt, before}
 use Rattle.heap.specs.Faults.{names, fullAt, emptyAt, nextAt, countOk, positionOk, orderOk, misplaced, disordered, faultBy, orElse, countFault, positionFault, orderFault, chainFault, faultOf, isNo, consistentOf}
 use Rattle.heap.specs.Sound.{Sound, Counted}
+use Rattle.heap.proofs.Soundness.SoundFacts.{empty-made}
 use Rattle.heap.proofs.Testing.FaultLaws.{position-yes, order-not}
 
 -- there is no first fault where there is neither of the two
@@ -85,10 +87,10 @@ module _ (h : Heap) where
   chainTest = chainOkb (emptyAt h) (nextAt h) (h .made) (unless (h .made) (h .free .0))
 
   chain-no : isNo (chainFault h) ≡ chainTest
-  unfolding chainFault chainOkb
+  unfolding chainFault
   chain-no =
-      no-by FreeChain (λ k. refl) (faultAt (emptyAt h) (nextAt h) (count (emptyAt h) (h .made)) 0 (unless (h .made) (h .free .0)))
-      ∙ fault-walk (emptyAt h) (nextAt h) (count (emptyAt h) (h .made)) 0 (unless (h .made) (h .free .0))
+      no-by FreeChain (λ k. refl) (wrongStep (emptyAt h) (nextAt h) (h .made) (unless (h .made) (h .free .0)))
+      ∙ wrong-none (emptyAt h) (nextAt h) (unless (h .made) (h .free .0)) (h .made) (empty-made h)
 
   ref-chain : Ref (chainTest ≡ true) (isNo (chainFault h))
   ref-chain = rw chain-no (ref-self chainTest)

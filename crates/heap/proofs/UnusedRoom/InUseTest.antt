@@ -9,11 +9,13 @@ use native.Mathlib.Omega.{arith}
 use lib.Dec.{ltb, leb, eqb}
 use Rattle.theory.specs.Order.{parent}
 use Rattle.theory.specs.Counting.{count}
-use Rattle.theory.specs.Chain.{unless, faultAt}
+use Rattle.theory.specs.Chain.{unless}
 use Rattle.theory.specs.First.{firstBad}
+use Rattle.theory.specs.WrongStep.{wrongStep}
 use Rattle.theory.proofs.Tests.{ref-lt}
 use Rattle.theory.proofs.First.{first-same}
 use Rattle.theory.proofs.Counting.{count-same}
+use Rattle.theory.proofs.WrongStep.{wrong-same}
 use Rattle.heap.specs.Capacity.{cap}
 use Rattle.heap.specs.declared.SlotState.{SlotState}
 use Rattle.heap.specs.declared.Heap.{Heap}
@@ -23,20 +25,6 @@ use Rattle.heap.specs.Faults.{isFull, names, linkOf, fullAt, emptyAt, ne
 use Rattle.heap.specs.InUse.{SameInUse}
 use Rattle.heap.proofs.AsList.Items.{and-same}
 use Rattle.heap.proofs.Soundness.SoundFacts.{empty-made}
-
--- where the same numbers pass, and those have the same links, a chain goes wrong at the same step
-module _ (ok ok' : ℕ → Bool) (next next' : ℕ → Option ℕ) (a : (y : ℕ) → ok y ≡ ok' y) (b : (y : ℕ) → ok y ≡ true → next y ≡ next' y) where
-  chain-fault-same : (n k : ℕ) (h : Option ℕ) → faultAt ok next n k h ≡ faultAt ok' next' n k h
-  unfolding faultAt
-  chain-fault-same zero k none = refl
-  chain-fault-same zero k (some x) = refl
-  chain-fault-same (suc n) k none = refl
-  chain-fault-same (suc n) k (some x) = go (ok x) refl (chain-fault-same n (k + 1) (next x))
-    where
-      go : (f : Bool) → ok x ≡ f → faultAt ok next n (k + 1) (next x) ≡ faultAt ok' next' n (k + 1) (next x)
-          → cond (ok x) (faultAt ok next n (k + 1) (next x)) (some k) ≡ cond (ok' x) (faultAt ok' next' n (k + 1) (next' x)) (some k)
-      go true e r = rw (← a x, e) (r ∙ ap (faultAt ok' next' n (k + 1)) (b x e))
-      go false e r = rw (← a x, e)
 
 module _ (g h : Heap) (r : SameInUse g h) where
   full-count : count (fullAt g) (g .made) ≡ count (fullAt h) (h .made)
@@ -67,9 +55,6 @@ module _ (g h : Heap) (r : SameInUse g h) where
   unfolding nextAt
   next-ok s e = ap₂ linkOf (r .same-made) (r .slots s (empty-made h s (sym (empty-ok s) ∙ e)))
 
-  empty-count : count (emptyAt g) (g .made) ≡ count (emptyAt h) (h .made)
-  empty-count = ap (count (emptyAt g)) (r .same-made) ∙ count-same (emptyAt g) (emptyAt h) (h .made) (λ s _. empty-ok s)
-
   position-fault : positionFault g ≡ positionFault h
   unfolding positionFault
   position-fault =
@@ -88,8 +73,9 @@ module _ (g h : Heap) (r : SameInUse g h) where
   unfolding chainFault
   chain-fault =
       ap (faultBy FreeChain)
-      (chain-fault-same (emptyAt g) (emptyAt h) (nextAt g) (nextAt h) empty-ok next-ok (count (emptyAt g) (g .made)) 0 (unless (g .made) (g .free .0))
-      ∙ (λ t. faultAt (emptyAt h) (nextAt h) (empty-count t) 0 (unless (r .same-made t) (r .same-free t .0))))
+      ((λ t. wrongStep (emptyAt g) (nextAt g) (r .same-made t) (unless (r .same-made t) (r .same-free t .0)))
+      ∙ wrong-same (emptyAt g) (emptyAt h) (nextAt g) (nextAt h) empty-ok next-ok (h .made) (λ s e. empty-made h s (sym (empty-ok s) ∙ e))
+      (unless (h .made) (h .free .0)))
 
   -- the scans find the same fault
   pub fault-in-use : faultOf g ≡ faultOf h
