@@ -12,3 +12,4 @@ pub mod Weights
 pub mod Logarithm
 pub mod First
 pub mod Least
+pub mod WrongRows

@@ -26,8 +26,9 @@ use Rattle.timers.specs.declared.left.Earliest.{Earliest}
 use Rattle.timers.specs.declared.left.Earliest.the-variants as S
 use Rattle.timers.specs.Calls.{Timing, doorOf}
 
--- TIME LEFT: the deadline that a live timer has, fired or not, minus the reading: zero at the deadline, below zero once it is overdue. Refused with 1, 2 and 3 as at the door of every call on a handle, then
--- with 6 where the number is no signed one of 64 bits
+-- TIME LEFT: the deadline that a live timer has, fired or not, minus the reading: zero at the deadline, below zero once it is
+-- overdue. Refused with 1, 2 and 3 as at the door of every call on a handle, then with 6 where the number is no signed one of 64
+-- bits
 abbrev pub timeLeftBy : ℕ → Answer Timing → Answer ℤ
 timeLeftBy N (accepted t) = differenceOf (t .due) N
 timeLeftBy N (refused n) = refused n
