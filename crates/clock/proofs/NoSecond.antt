@@ -1,12 +1,13 @@
 -- No function on the clock has a second answer: neither another clock nor another word about it.
 -- Assumes nothing.
-use mathlib.Core.Path.{_≡_, refl, ap}
+use mathlib.Core.Path.{_≡_, refl}
 use mathlib.Core.Bool.{Bool}
 use Prim.Native.Nat.{ℕ}
 use Rattle.theory.specs.Promise.{NoSecond, TellsApart}
 use Rattle.theory.proofs.Promise.{by-rule, plain-apart, undone-apart}
+use Rattle.refusals.specs.declared.Refusal.the-variants.{Unsound}
 use Rattle.refusals.specs.declared.time.Time.{Time}
-use Rattle.refusals.specs.Answer.{Answer, accepted, refused, Outcome, Nothing}
+use Rattle.refusals.specs.Answer.{Answer, accepted, refused, unsound, Outcome, Nothing}
 use Rattle.refusals.specs.Times as Times
 use Rattle.refusals.proofs.Apart as Apart
 use Rattle.clock.specs.declared.Clock.{Clock}
@@ -20,10 +21,11 @@ use Rattle.clock.specs.Promises.{Starts, Reads, Pauses, Resumes, Advance
 abbrev changeOf : Answer Nothing → Change
 changeOf (accepted v) = Done
 changeOf (refused n) = Refused (Apart.refusalOf n)
+changeOf (unsound f) = Refused (Unsound f)
 
 said-back : (r : Change) → changeOf (said r) ≡ r
 said-back Done = refl
-said-back (Refused r) = ap Refused (Apart.refusal-back r)
+said-back (Refused r) = Apart.refusal-back changeOf Refused (λ n. refl) (λ x. refl) r
 
 -- what is said tells any two cases of a change apart
 pub said-apart : TellsApart said

@@ -5,8 +5,7 @@ use mathlib.Core.Bool.{Bool}
 use Prim.Native.Nat.{ℕ}
 use Rattle.refusals.specs.declared.Refusal.{Refusal}
 use Rattle.refusals.specs.declared.time.Time.{Time}
-use Rattle.refusals.specs.Numbers.{numberOf}
-use Rattle.refusals.specs.Answer.{kept}
+use Rattle.refusals.specs.Answer.{refuse, kept}
 use Rattle.refusals.specs.Times as Times
 use Rattle.clock.specs.declared.Clock.{Clock}
 use Rattle.clock.specs.declared.Changed.{Changed}
@@ -31,4 +30,4 @@ abbrev pub IsPaused : Clock → Bool → Type 0
 IsPaused c r = r ≡ pausedIn c
 
 abbrev pub Refuses : Clock → Refusal → Changed → Type 0
-Refuses c why r = told r ≡ kept c (numberOf why)
+Refuses c why r = told r ≡ kept c (refuse why)

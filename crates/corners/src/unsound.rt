@@ -1,7 +1,7 @@
-// Unsound sets, and a next wake of each, which is refused with 1. A row is that of specs/States.antt in the crate `promises`, of whose
-// two sets it is the second, and a clause that of specs/Clauses.antt there: the set breaks the clauses that are named, and no other.
-// Three sets have no row there: each goes wrong at a step of the test that no row comes to. Where the heap is at fault, a peek of it is
-// made too.
+// Unsound sets, and a next wake of each, which is refused with 1 and the first fault. A row is that of specs/States.antt in the crate
+// `promises`, of whose two sets it is the second, and a clause that of specs/Clauses.antt there: the set breaks the clauses that are
+// named, and no other. Three sets have no row there: each goes wrong at a step of the test that no row comes to. Where the heap is at
+// fault, a peek of it is made too.
 use crate::sets;
 use crate::sets::apart;
 use crate::sets::closed;
@@ -29,7 +29,7 @@ use state::Set;
 use state::Waiting;
 
 // What the set is, and what a next wake of it answers.
-fn wake(what: &[u8], s: Set) {
+pub fn wake(what: &[u8], s: Set) {
     tell::text(what);
     let a = timers::next_wake(s);
     let r = a.reply;

@@ -5,7 +5,7 @@ use mathlib.Core.Bool.{cond}
 use mathlib.Core.List.{List, [], _∷_}
 use Prim.Native.Nat.{ℕ, zero, suc, _+_, _-_, _/_, _%_}
 use lib.ListN.{getD, replicate}
-use Rattle.refusals.specs.Answer.{Answer, accepted, refused, Outcome}
+use Rattle.refusals.specs.Answer.{Answer, Outcome, numberIn}
 use Rattle.heap.specs.Capacity.{cap}
 use Rattle.interval.specs.declared.Policy.the-variants.{Skip}
 use Rattle.state.specs.declared.Set.{Set}
@@ -56,14 +56,9 @@ eachOf x s = eachFrom (cap - x / 16 % 16) (x % 16) (x / 16 % 16) s
 unfoldable pub builtOf : ℕ → Set
 builtOf x = eachOf (x / 16777216) (eachOf (x / 65536) (eachOf (x / 256) (eachOf x freshOf)))
 
--- 0 for what is accepted, and the number of a refusal
-abbrev pub codeIn : {A : Type 0} → Answer A → ℕ
-codeIn (accepted v) = 0
-codeIn (refused n) = n
-
--- that of an outcome, and 100 where its set is not sound
+-- what is told of an outcome, and 100 where its set is not sound
 abbrev pub toldOf : Outcome Set Value → ℕ
-toldOf o = cond (soundOf (o .state)) (codeIn (o .answer)) 100
+toldOf o = cond (soundOf (o .state)) (numberIn (o .answer)) 100
 
 -- an outcome without the list that was lent
 abbrev pub plain : Outcome Lent Value → Outcome Set Value
@@ -88,4 +83,4 @@ seenOf o = seen (toldOf o) 1 1
 
 -- and of a query, which hands no set back
 abbrev pub seenAnswer : {A : Type 0} → Answer A → Seen
-seenAnswer a = seen (codeIn a) 1 1
+seenAnswer a = seen (numberIn a) 1 1

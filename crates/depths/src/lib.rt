@@ -13,10 +13,11 @@ use timers::Call;
 use timers::Reply;
 use timers::left::Least;
 ghost use mathlib.Core.Path.{_≡_};
+ghost use Rattle.refusals.specs.Answer.{numberIn};
 ghost use Rattle.refusals.specs.Times.{saidLeft};
 ghost use Rattle.timers.specs.Calls.{said};
 ghost use Rattle.timers.specs.Left.{saidLeast};
-ghost use Rattle.depths.specs.Rules.{handleAt, callIn, madeOf, eachOf, builtOf, codeIn};
+ghost use Rattle.depths.specs.Rules.{handleAt, callIn, madeOf, eachOf, builtOf};
 ghost use Rattle.depths.specs.Promises.{Tells, Fresh, Adds, Resets, Cancels, Drains, Advances, Turns, Wakes, Polls, Closes, Ticks, Restarts, TellsLeft, TellsLeast, Performs};
 
 // A fresh set.
@@ -243,7 +244,7 @@ fn told(a: After) -> u64
 
 // The number of a refusal; 0 for an answer.
 fn code(reply: Reply) -> u64
-    ensures { λ r. ⌜ r ≡ codeIn (said reply) ⌝ }
+    ensures { λ r. ⌜ r ≡ numberIn (said reply) ⌝ }
 {
     match reply {
         Reply::Refused(why) => refusals::number(why) as u64,
@@ -253,7 +254,7 @@ fn code(reply: Reply) -> u64
 
 // The same of a time left. A query hands no set back, so this is all that is answered of it.
 fn code_left(left: Left) -> u64
-    ensures { λ r. ⌜ r ≡ codeIn (saidLeft left) ⌝ }
+    ensures { λ r. ⌜ r ≡ numberIn (saidLeft left) ⌝ }
 {
     match left {
         Left::Nanos(_) => 0,
@@ -263,7 +264,7 @@ fn code_left(left: Left) -> u64
 
 // And of a least left.
 fn code_least(least: Least) -> u64
-    ensures { λ r. ⌜ r ≡ codeIn (saidLeast least) ⌝ }
+    ensures { λ r. ⌜ r ≡ numberIn (saidLeast least) ⌝ }
 {
     match least {
         Least::Nothing => 0,

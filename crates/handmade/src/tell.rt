@@ -8,6 +8,8 @@ use heap::Peeked;
 use heap::Pushed;
 use heap::Removed;
 use libc::STDOUT_FILENO;
+use refusals::Refusal;
+use refusals::fault::Fault;
 use refusals::time::Left;
 use refusals::time::Time;
 use timers::Reply;
@@ -31,6 +33,28 @@ fn signed(n: i64) {
         text(b"-");
     }
     number(b"", refusals::time::size(n));
+}
+
+// Writes a refusal by its number, and the fault that an unsound state is refused for.
+fn refused(why: Refusal) {
+    number(b"refused ", refusals::number(why) as u64);
+    match why {
+        Refusal::Unsound(f) => fault(f),
+        _ => {}
+    }
+}
+
+// Writes a fault: its kind, and where it is.
+fn fault(f: Fault) {
+    match f {
+        Fault::Count => text(b", count"),
+        Fault::Position(_) => text(b", position"),
+        Fault::Order(_) => text(b", order"),
+        Fault::FreeChain(_) => text(b", free chain"),
+        Fault::List(_) => text(b", list"),
+        Fault::Place(_) => text(b", place"),
+    }
+    number(b" ", refusals::fault::at(f));
 }
 
 // Writes what a poll found.
@@ -58,7 +82,7 @@ pub fn reply(r: Reply) {
         Reply::NoWake => text(b"no wake"),
         Reply::Found(found) => polled(found),
         Reply::Ticked(at) => number(b"ticked ", at),
-        Reply::Refused(why) => number(b"refused ", refusals::number(why) as u64),
+        Reply::Refused(why) => refused(why),
     }
     text(b"\n");
 }
@@ -77,7 +101,7 @@ pub fn pushed(a: AfterPush) {
             number(b"slot ", slot.0 as u64);
             number(b" swaps ", swaps as u64);
         }
-        Pushed::Refused(why) => number(b"refused ", refusals::number(why) as u64),
+        Pushed::Refused(why) => refused(why),
     }
     text(b"\n");
 }
@@ -91,7 +115,7 @@ pub fn removed(a: AfterRemove) {
             number(b" swaps ", swaps as u64);
         }
         Removed::Nothing => text(b"nothing"),
-        Removed::Refused(why) => number(b"refused ", refusals::number(why) as u64),
+        Removed::Refused(why) => refused(why),
     }
     text(b"\n");
 }
@@ -101,7 +125,7 @@ pub fn peeked(p: Peeked) {
     match p {
         Peeked::Head(e) => entry(e),
         Peeked::Nothing => text(b"nothing"),
-        Peeked::Refused(why) => number(b"refused ", refusals::number(why) as u64),
+        Peeked::Refused(why) => refused(why),
     }
     text(b"\n");
 }
@@ -110,7 +134,7 @@ pub fn peeked(p: Peeked) {
 pub fn time(t: Time) {
     match t {
         Time::At(at) => number(b"", at),
-        Time::Refused(why) => number(b"refused ", refusals::number(why) as u64),
+        Time::Refused(why) => refused(why),
     }
     text(b"\n");
 }
@@ -119,7 +143,7 @@ pub fn time(t: Time) {
 pub fn left(l: Left) {
     match l {
         Left::Nanos(n) => signed(n),
-        Left::Refused(why) => number(b"refused ", refusals::number(why) as u64),
+        Left::Refused(why) => refused(why),
     }
     text(b"\n");
 }
@@ -129,7 +153,7 @@ pub fn least(l: Least) {
     match l {
         Least::Nothing => text(b"none"),
         Least::Nanos(n) => signed(n),
-        Least::Refused(why) => number(b"refused ", refusals::number(why) as u64),
+        Least::Refused(why) => refused(why),
     }
     text(b"\n");
 }
@@ -139,7 +163,7 @@ pub fn changed(c: Changed) {
     let answer = c.answer;
     match answer {
         Change::Done => text(b"done"),
-        Change::Refused(why) => number(b"refused ", refusals::number(why) as u64),
+        Change::Refused(why) => refused(why),
     }
     text(b"\n");
 }

@@ -1,19 +1,20 @@
 -- No public function on the heap has a second answer: neither another heap nor another word about it.
 -- Assumes nothing.
-use mathlib.Core.Path.{_≡_, refl, ap}
+use mathlib.Core.Path.{_≡_, refl}
 use mathlib.Core.Bool.{Bool}
 use mathlib.Core.Option.{Option, none, some}
 use Prim.Native.Nat.{ℕ}
 use Rattle.theory.specs.Promise.{NoSecond, TellsApart}
 use Rattle.theory.proofs.Promise.{by-rule, plain-apart, undone-apart}
-use Rattle.refusals.specs.Answer.{Answer, accepted, refused, Outcome}
-use Rattle.refusals.proofs.Apart.{refusalOf, refusal-back}
+use Rattle.refusals.specs.declared.Refusal.the-variants.{Unsound}
+use Rattle.refusals.specs.Faults.{saidVerdict}
+use Rattle.refusals.specs.Answer.{Answer, accepted, refused, unsound, Outcome}
+use Rattle.refusals.proofs.Apart.{refusalOf, refusal-back, verdict-apart}
 use Rattle.heap.specs.Capacity.{cap}
 use Rattle.heap.specs.declared.Slot.{Slot}
 use Rattle.heap.specs.declared.Place.{Place}
 use Rattle.heap.specs.declared.Entry.{Entry}
 use Rattle.heap.specs.declared.Heap.{Heap}
-use Rattle.heap.specs.declared.fault.Fault.{Fault}
 use Rattle.heap.specs.declared.Pushed.{Pushed}
 use Rattle.heap.specs.declared.Pushed.the-variants as P
 use Rattle.heap.specs.declared.AfterPush.{AfterPush}
@@ -31,10 +32,11 @@ use Rattle.heap.specs.Promises.{Capacity, Before, Fresh, Heights, Faults
 abbrev pushedBy : Answer (Slot × ℕ) → Pushed
 pushedBy (accepted v) = P.Done (v .0) (v .1)
 pushedBy (refused n) = P.Refused (refusalOf n)
+pushedBy (unsound f) = P.Refused (Unsound f)
 
 push-back : (r : Pushed) → pushedBy (saidPush r) ≡ r
 push-back (P.Done s n) = refl
-push-back (P.Refused r) = ap P.Refused (refusal-back r)
+push-back (P.Refused r) = refusal-back pushedBy P.Refused (λ n. refl) (λ x. refl) r
 
 -- the answer of a removal or a pop that says this
 abbrev offBy : Off → Removed
@@ -44,11 +46,12 @@ offBy (some v) = R.Done (v .0) (v .1)
 abbrev removedBy : Answer Off → Removed
 removedBy (accepted o) = offBy o
 removedBy (refused n) = R.Refused (refusalOf n)
+removedBy (unsound f) = R.Refused (Unsound f)
 
 remove-back : (r : Removed) → removedBy (saidRemove r) ≡ r
 remove-back (R.Done e n) = refl
 remove-back R.Nothing = refl
-remove-back (R.Refused r) = ap R.Refused (refusal-back r)
+remove-back (R.Refused r) = refusal-back removedBy R.Refused (λ n. refl) (λ x. refl) r
 
 -- the answer of a peek that says this
 abbrev headBy : Option Entry → Peeked
@@ -58,11 +61,12 @@ headBy (some e) = K.Head e
 abbrev peekedBy : Answer (Option Entry) → Peeked
 peekedBy (accepted o) = headBy o
 peekedBy (refused n) = K.Refused (refusalOf n)
+peekedBy (unsound f) = K.Refused (Unsound f)
 
 peek-back : (r : Peeked) → peekedBy (saidPeek r) ≡ r
 peek-back (K.Head e) = refl
 peek-back K.Nothing = refl
-peek-back (K.Refused r) = ap K.Refused (refusal-back r)
+peek-back (K.Refused r) = refusal-back peekedBy K.Refused (λ n. refl) (λ x. refl) r
 
 -- what is said of a peek tells any two answers apart
 pub peek-apart : TellsApart saidPeek
@@ -93,7 +97,7 @@ pub fresh-no-second : NoSecond (λ (q : Unit {0}) (r : Heap). Fresh r)
 fresh-no-second = by-rule (λ (r : Heap). r) (λ (q : Unit {0}). freshOf) plain-apart
 
 pub first-fault-no-second : NoSecond Faults
-first-fault-no-second = by-rule (λ (r : Fault). r) faultOf plain-apart
+first-fault-no-second = by-rule saidVerdict faultOf verdict-apart
 
 pub consistent-no-second : NoSecond Consistent
 consistent-no-second = by-rule (λ (r : Bool). r) consistentOf plain-apart

@@ -2,3 +2,5 @@
 pub mod FaultLaws
 pub mod ChainLaws
 pub mod Test
+pub mod Named
+pub mod OneFault

@@ -6,9 +6,9 @@ use Prim.Native.Nat.{ℕ}
 use lib.Dec.{ltb, eqb}
 use lib.ListN.{replicate}
 use Rattle.theory.specs.Logarithm.{log2}
+use Rattle.refusals.specs.declared.fault.Fault.{Fault}
 use Rattle.refusals.specs.declared.Refusal.the-variants.{Unsound, Full, VacantSlot}
-use Rattle.refusals.specs.Numbers.{numberOf}
-use Rattle.refusals.specs.Answer.{Answer, accepted, refused, refuse, Outcome, Nothing, kept}
+use Rattle.refusals.specs.Answer.{Answer, accepted, refused, unsound, refuse, Outcome, Nothing, kept}
 use Rattle.heap.specs.Capacity.{cap}
 use Rattle.heap.specs.declared.Slot.{Slot}
 use Rattle.heap.specs.declared.Place.{Place}
@@ -28,7 +28,7 @@ use Rattle.heap.specs.declared.AfterRemove.{AfterRemove}
 use Rattle.heap.specs.declared.Peeked.{Peeked}
 use Rattle.heap.specs.declared.Peeked.the-variants as K
 use Rattle.heap.specs.Rules.{noEntry, entryAt, stateAt, pushedOf, removedOf}
-use Rattle.heap.specs.Faults.{consistentOf}
+use Rattle.heap.specs.Faults.{faultOf}
 
 -- the empty heap: no entry, no slot, the free head at 0
 abbrev pub freshOf : Heap
@@ -44,14 +44,19 @@ freshOf = record {
 abbrev pub heightOf : ℕ → ℕ
 heightOf n = log2 n
 
--- what the test says to a call: an unsound heap is refused with 1
+-- what the test says to a call: an unsound heap is refused with 1 and its first fault
+abbrev pub passing : Option Fault → Answer Nothing
+passing none = accepted tt
+passing (some f) = refuse (Unsound f)
+
 unfoldable pub guardOf : Heap → Answer Nothing
-guardOf h = cond (consistentOf h) (accepted tt) (refuse Unsound)
+guardOf h = passing (faultOf h)
 
 -- a call begins with the test: what it would do where it is let through, else the heap handed back with the refusal
 abbrev pub guardedBy : {A : Type 0} → Heap → Outcome Heap A → Answer Nothing → Outcome Heap A
 guardedBy h o (accepted v) = o
-guardedBy h o (refused n) = kept h n
+guardedBy h o (refused n) = kept h (refused n)
+guardedBy h o (unsound f) = kept h (unsound f)
 
 abbrev pub guarded : {A : Type 0} → Heap → Outcome Heap A → Outcome Heap A
 guarded h o = guardedBy h o (guardOf h)
@@ -62,7 +67,7 @@ pushGives s m = record { state = m .heap; answer = accepted (s, m .swaps) }
 
 -- push onto a sound heap: refused with 4 where it holds `cap` entries
 unfoldable pub pushSound : Heap → ℕ → ℕ → Place → Outcome Heap (Slot × ℕ)
-pushSound h at g place = cond (ltb (h .len) cap) (pushGives (h .free) (pushedOf h at g place)) (kept h (numberOf Full))
+pushSound h at g place = cond (ltb (h .len) cap) (pushGives (h .free) (pushedOf h at g place)) (kept h (refuse Full))
 
 -- what is taken off: an entry with the swaps of its removal, or nothing
 abbrev pub Off : Type 0
@@ -74,11 +79,11 @@ removeGives e m = record { state = m .heap; answer = accepted (some (e, m .swaps
 -- by what the slot is: an empty one is refused with 11
 abbrev pub removeBy : Heap → Slot → SlotState → Outcome Heap Off
 removeBy h s (State.Full p) = removeGives (entryAt h (p .0)) (removedOf h s p)
-removeBy h s (State.Empty n) = kept h (numberOf VacantSlot)
+removeBy h s (State.Empty n) = kept h (refuse VacantSlot)
 
 -- remove by slot from a sound heap: refused with 11 where the slot was never made, or is empty
 unfoldable pub removeSound : Heap → Slot → Outcome Heap Off
-removeSound h s = cond (ltb (s .0) (h .made)) (removeBy h s (stateAt h (s .0))) (kept h (numberOf VacantSlot))
+removeSound h s = cond (ltb (s .0) (h .made)) (removeBy h s (stateAt h (s .0))) (kept h (refuse VacantSlot))
 
 -- pop of a sound heap: of an empty one nothing, else the removal of the head's slot
 unfoldable pub popSound : Heap → Outcome Heap Off
@@ -101,6 +106,7 @@ popOf h = guarded h (popSound h)
 abbrev pub peekBy : Answer (Option Entry) → Answer Nothing → Answer (Option Entry)
 peekBy a (accepted v) = a
 peekBy a (refused n) = refused n
+peekBy a (unsound f) = unsound f
 
 abbrev pub peekOf : Heap → Answer (Option Entry)
 peekOf h = peekBy (peekSound h) (guardOf h)
@@ -108,21 +114,21 @@ peekOf h = peekBy (peekSound h) (guardOf h)
 -- what the code's answers say
 abbrev pub saidGuard : Guard → Answer Nothing
 saidGuard G.Sound = accepted tt
-saidGuard (G.Refused r) = refused (numberOf r)
+saidGuard (G.Refused r) = refuse r
 
 abbrev pub saidPush : Pushed → Answer (Slot × ℕ)
 saidPush (P.Done s n) = accepted (s, n)
-saidPush (P.Refused r) = refused (numberOf r)
+saidPush (P.Refused r) = refuse r
 
 abbrev pub saidRemove : Removed → Answer Off
 saidRemove (R.Done e n) = accepted (some (e, n))
 saidRemove R.Nothing = accepted none
-saidRemove (R.Refused r) = refused (numberOf r)
+saidRemove (R.Refused r) = refuse r
 
 abbrev pub saidPeek : Peeked → Answer (Option Entry)
 saidPeek (K.Head e) = accepted (some e)
 saidPeek K.Nothing = accepted none
-saidPeek (K.Refused r) = refused (numberOf r)
+saidPeek (K.Refused r) = refuse r
 
 -- the heap handed back, and what is said
 abbrev pub toldPush : AfterPush → Outcome Heap (Slot × ℕ)

@@ -9,12 +9,13 @@ use Rattle.theory.specs.Counting.{count}
 use Rattle.theory.specs.Chain.{unless}
 use Rattle.theory.specs.First.{firstBad}
 use Rattle.theory.specs.WrongStep.{wrongStep}
+use Rattle.refusals.specs.declared.fault.Fault.{Fault}
+use Rattle.refusals.specs.declared.fault.Fault.the-variants.{Count, Position, Order, FreeChain}
+use Rattle.refusals.specs.Faults.{orElse, faultBy, clear}
 use Rattle.heap.specs.Capacity.{cap}
 use Rattle.heap.specs.declared.SlotState.{SlotState}
 use Rattle.heap.specs.declared.SlotState.the-variants.{Full, Empty}
 use Rattle.heap.specs.declared.Heap.{Heap}
-use Rattle.heap.specs.declared.fault.Fault.{Fault}
-use Rattle.heap.specs.declared.fault.Fault.the-variants.{No, Count, Position, Order, FreeChain}
 use Rattle.heap.specs.Rules.{entryAt, stateAt, slotAt, before}
 
 abbrev pub isFull : SlotState → Bool
@@ -53,51 +54,24 @@ positionOk h i = ltb (slotAt h i) (h .made) && names (stateAt h (slotAt h i)) i
 unfoldable pub orderOk : Heap → ℕ → Bool
 orderOk h i = not (before (entryAt h i) (entryAt h (parent i)))
 
--- the faults at a position: its entry and its slot do not name each other; its entry is smaller than its parent
-abbrev pub misplaced : ℕ → Fault
-misplaced i = Position (record { 0 = i })
+unfoldable pub countFault : Heap → Option Fault
+countFault h = cond (countOk h) none (some Count)
 
-abbrev pub disordered : ℕ → Fault
-disordered i = Order (record { 0 = i })
-
--- a fault of a kind, where a scan found one
-abbrev pub faultBy : (ℕ → Fault) → Option ℕ → Fault
-faultBy kind none = No
-faultBy kind (some k) = kind k
-
--- the first of two faults
-abbrev pub orElse : Fault → Fault → Fault
-orElse No f = f
-orElse Count f = Count
-orElse (Position i) f = Position i
-orElse (Order i) f = Order i
-orElse (FreeChain k) f = FreeChain k
-
-unfoldable pub countFault : Heap → Fault
-countFault h = cond (countOk h) No Count
-
-unfoldable pub positionFault : Heap → Fault
-positionFault h = faultBy misplaced (firstBad (positionOk h) (h .len) 0)
+unfoldable pub positionFault : Heap → Option Fault
+positionFault h = faultBy Position (firstBad (positionOk h) (h .len) 0)
 
 -- the head has no parent
-unfoldable pub orderFault : Heap → Fault
-orderFault h = faultBy disordered (firstBad (orderOk h) (h .len - 1) 1)
+unfoldable pub orderFault : Heap → Option Fault
+orderFault h = faultBy Order (firstBad (orderOk h) (h .len - 1) 1)
 
 -- the free chain visits each empty slot once and ends at the number of slots: the first step along it that meets a slot that was not
 -- made, that is full or that was met before, or at which it has ended while an empty slot is missing
-unfoldable pub chainFault : Heap → Fault
+unfoldable pub chainFault : Heap → Option Fault
 chainFault h = faultBy FreeChain (wrongStep (emptyAt h) (nextAt h) (h .made) (unless (h .made) (h .free .0)))
 
-unfoldable pub faultOf : Heap → Fault
+unfoldable pub faultOf : Heap → Option Fault
 faultOf h = orElse (countFault h) (orElse (positionFault h) (orElse (orderFault h) (chainFault h)))
-
-abbrev pub isNo : Fault → Bool
-isNo No = true
-isNo Count = false
-isNo (Position i) = false
-isNo (Order i) = false
-isNo (FreeChain k) = false
 
 -- the heap test, yes or no
 unfoldable pub consistentOf : Heap → Bool
-consistentOf h = isNo (faultOf h)
+consistentOf h = clear (faultOf h)

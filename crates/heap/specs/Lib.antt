@@ -8,3 +8,4 @@ pub mod InUse
 pub mod Calls
 pub mod Promises
 pub mod Pops
+pub mod Named

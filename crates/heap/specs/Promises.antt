@@ -8,7 +8,8 @@ use Rattle.heap.specs.declared.Slot.{Slot}
 use Rattle.heap.specs.declared.Place.{Place}
 use Rattle.heap.specs.declared.Entry.{Entry}
 use Rattle.heap.specs.declared.Heap.{Heap}
-use Rattle.heap.specs.declared.fault.Fault.{Fault}
+use Rattle.refusals.specs.declared.fault.Verdict.{Verdict}
+use Rattle.refusals.specs.Faults.{saidVerdict}
 use Rattle.heap.specs.declared.Guard.{Guard}
 use Rattle.heap.specs.declared.AfterPush.{AfterPush}
 use Rattle.heap.specs.declared.AfterRemove.{AfterRemove}
@@ -30,8 +31,8 @@ Fresh r = r ≡ freshOf
 abbrev pub Heights : ℕ → ℕ → Type 0
 Heights n r = r ≡ heightOf n
 
-abbrev pub Faults : Heap → Fault → Type 0
-Faults h r = r ≡ faultOf h
+abbrev pub Faults : Heap → Verdict → Type 0
+Faults h r = saidVerdict r ≡ faultOf h
 
 abbrev pub Consistent : Heap → Bool → Type 0
 Consistent h r = r ≡ consistentOf h

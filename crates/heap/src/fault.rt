@@ -4,60 +4,50 @@ use crate::CAP;
 use crate::Heap;
 use crate::Pos;
 use crate::SlotState;
+use refusals::fault::Fault;
+use refusals::fault::Verdict;
 ghost use mathlib.Core.Path.{_≡_};
 ghost use Prim.Native.Nat.{_≤_};
 ghost use Rattle.theory.specs.Counting.{count};
+ghost use Rattle.refusals.specs.Faults.{saidVerdict};
 ghost use Rattle.heap.specs.Capacity.{cap};
 ghost use Rattle.heap.specs.Sound.{Counted};
 ghost use Rattle.heap.specs.Faults.{fullAt, countFault, positionFault, orderFault, chainFault};
 ghost use Rattle.heap.specs.Promises.{Faults};
 
-// What is wrong with a heap, and where.
-pub enum Fault {
-    No,
-    // too many entries or slots, or not as many entries as full slots
-    Count,
-    // the first position whose entry and slot do not name each other
-    Position(Pos),
-    // the first position whose entry is smaller than its parent
-    Order(Pos),
-    // the step along the free chain at which it goes wrong
-    FreeChain(usize),
-}
-
 // The first fault of a heap, in the order of the kinds.
-pub fn first_fault(h: Heap) -> Fault
+pub fn first_fault(h: Heap) -> Verdict
     ensures { λ r. ⌜ Faults h r ⌝ }
 {
     let c = count_fault(h);
-    let Fault::No = c else {
+    let Verdict::Sound = c else {
         return c;
     };
     let p = position_fault(h);
-    let Fault::No = p else {
+    let Verdict::Sound = p else {
         return p;
     };
     let o = order_fault(h);
-    let Fault::No = o else {
+    let Verdict::Sound = o else {
         return o;
     };
     chain_fault(h)
 }
 
 // Whether the counts are wrong.
-fn count_fault(h: Heap) -> Fault
-    ensures { λ r. ⌜ r ≡ countFault h ⌝ }
+fn count_fault(h: Heap) -> Verdict
+    ensures { λ r. ⌜ saidVerdict r ≡ countFault h ⌝ }
 {
     if CAP < h.len {
-        return Fault::Count;
+        return Verdict::Broken(Fault::Count);
     }
     if CAP < h.made {
-        return Fault::Count;
+        return Verdict::Broken(Fault::Count);
     }
     if full_count(h) == h.len {
-        Fault::No
+        Verdict::Sound
     } else {
-        Fault::Count
+        Verdict::Broken(Fault::Count)
     }
 }
 
@@ -80,9 +70,9 @@ fn full_count(h: Heap) -> usize
 }
 
 // The first position whose entry's slot was not made, is empty, or names another position.
-fn position_fault(h: Heap) -> Fault
+fn position_fault(h: Heap) -> Verdict
     requires { ⌜ (h .len ≤ cap) × (h .made ≤ cap) ⌝ }
-    ensures { λ r. ⌜ r ≡ positionFault h ⌝ }
+    ensures { λ r. ⌜ saidVerdict r ≡ positionFault h ⌝ }
 {
     let mut i: usize = 0;
     while i < h.len {
@@ -91,43 +81,43 @@ fn position_fault(h: Heap) -> Fault
         let slot = e.slot;
         let s = slot.0 as usize;
         if h.made <= s {
-            return Fault::Position(at);
+            return Verdict::Broken(Fault::Position(i as u64));
         }
         let x = h.slots[s];
         let st = x.state;
         let SlotState::Full(pos) = st else {
-            return Fault::Position(at);
+            return Verdict::Broken(Fault::Position(i as u64));
         };
         if pos.0 != at.0 {
-            return Fault::Position(at);
+            return Verdict::Broken(Fault::Position(i as u64));
         }
         i += 1;
     }
-    Fault::No
+    Verdict::Sound
 }
 
 // The first position whose entry is smaller than its parent.
-fn order_fault(h: Heap) -> Fault
+fn order_fault(h: Heap) -> Verdict
     requires { ⌜ h .len ≤ cap ⌝ }
-    ensures { λ r. ⌜ r ≡ orderFault h ⌝ }
+    ensures { λ r. ⌜ saidVerdict r ≡ orderFault h ⌝ }
 {
     let mut i: usize = 1;
     while i < h.len {
         let e = h.entries[i];
         let p = h.entries[(i - 1) / 2];
         if crate::before(e, p) {
-            return Fault::Order(Pos(i as u16));
+            return Verdict::Broken(Fault::Order(i as u64));
         }
         i += 1;
     }
-    Fault::No
+    Verdict::Sound
 }
 
 // The first step at which the free chain meets a slot that was not made, is full or was met before, ends too soon, or goes on too
 // long. It marks the slots that it meets: a loop is noticed where it closes.
-fn chain_fault(h: Heap) -> Fault
+fn chain_fault(h: Heap) -> Verdict
     requires { ⌜ Counted h ⌝ }
-    ensures { λ r. ⌜ r ≡ chainFault h ⌝ }
+    ensures { λ r. ⌜ saidVerdict r ≡ chainFault h ⌝ }
 {
     let n = h.made - h.len;
     let mut met = [false; CAP];
@@ -136,15 +126,15 @@ fn chain_fault(h: Heap) -> Fault
     while step < n {
         let s = at.0 as usize;
         if h.made <= s {
-            return Fault::FreeChain(step);
+            return Verdict::Broken(Fault::FreeChain(step as u64));
         }
         if met[s] {
-            return Fault::FreeChain(step);
+            return Verdict::Broken(Fault::FreeChain(step as u64));
         }
         let x = h.slots[s];
         let st = x.state;
         let SlotState::Empty(next) = st else {
-            return Fault::FreeChain(step);
+            return Verdict::Broken(Fault::FreeChain(step as u64));
         };
         met[s] = true;
         at = next;
@@ -152,8 +142,8 @@ fn chain_fault(h: Heap) -> Fault
     }
     let end = at.0 as usize;
     if end == h.made {
-        Fault::No
+        Verdict::Sound
     } else {
-        Fault::FreeChain(step)
+        Verdict::Broken(Fault::FreeChain(step as u64))
     }
 }

@@ -10,6 +10,7 @@ pub mod fault;
 mod walk;
 
 use refusals::Refusal;
+use refusals::fault::Verdict;
 ghost use mathlib.Core.Path.{_≡_};
 ghost use Prim.Native.Nat.{_<_, _≤_};
 ghost use Rattle.heap.specs.Capacity.{cap};
@@ -149,21 +150,16 @@ pub fn consistent(h: Heap) -> bool
     ensures { λ r. ⌜ Consistent h r ⌝ }
 {
     let f = fault::first_fault(h);
-    if let fault::Fault::No = f {
-        true
-    } else {
-        false
-    }
+    if let Verdict::Sound = f { true } else { false }
 }
 
 // Push, remove, pop and peek begin here: whether the call may be made, or why not.
 fn guarded(h: Heap) -> Guard
     ensures { λ r. ⌜ Guards h r ⌝ }
 {
-    if consistent(h) {
-        Guard::Sound
-    } else {
-        Guard::Refused(Refusal::Unsound)
+    match fault::first_fault(h) {
+        Verdict::Sound => Guard::Sound,
+        Verdict::Broken(f) => Guard::Refused(Refusal::Unsound(f)),
     }
 }
 

@@ -5,7 +5,7 @@ use mathlib.Core.Bool.{Bool, cond}
 use Prim.Native.Nat.{ℕ, _+_, _-_, _%_}
 use lib.Dec.{ltb, eqb}
 use Rattle.refusals.specs.declared.Refusal.the-variants.{ZeroPeriod}
-use Rattle.refusals.specs.Answer.{Answer, accepted, refused, refuse}
+use Rattle.refusals.specs.Answer.{Answer, accepted, refused, unsound, refuse}
 use Rattle.refusals.specs.Times.{timely}
 use Rattle.interval.specs.declared.Policy.{Policy}
 use Rattle.interval.specs.declared.Policy.the-variants.{Burst, Delay, Skip}
@@ -18,6 +18,7 @@ lateAt T N = ltb (T + 5000000) N
 abbrev pub earlier : Answer ℕ → ℕ → Answer ℕ
 earlier (accepted t) d = accepted (t - d)
 earlier (refused n) d = refused n
+earlier (unsound f) d = unsound f
 
 -- Skip: N + period - ((N - T) mod period); refused with 9 where the period is 0, then with 6 where N + period is above 2^64-1
 abbrev pub skipOf : ℕ → ℕ → ℕ → Answer ℕ

@@ -1,6 +1,6 @@
 -- No call on a set of timers has a second answer: neither another set, nor another word about it, nor another list. Nor has either query.
 -- Assumes nothing.
-use mathlib.Core.Path.{_≡_, refl, ap}
+use mathlib.Core.Path.{_≡_, refl}
 use mathlib.Core.Option.{Option, none, some}
 use mathlib.Core.List.{List, [], _∷_}
 use Prim.Native.Nat.{ℕ}
@@ -8,7 +8,8 @@ use lib.ListN.{getD}
 use lib.IntN.{ℤ}
 use Rattle.theory.specs.Promise.{NoSecond, TellsApart}
 use Rattle.theory.proofs.Promise.{by-rule, undone-apart}
-use Rattle.refusals.specs.Answer.{Answer, accepted, refused, Outcome}
+use Rattle.refusals.specs.Answer.{Answer, accepted, refused, unsound, Outcome}
+use Rattle.refusals.specs.declared.Refusal.the-variants.{Unsound}
 use Rattle.refusals.specs.declared.time.Left.{Left}
 use Rattle.refusals.specs.Times.{saidLeft}
 use Rattle.refusals.proofs.Apart.{refusalOf, refusal-back, left-apart}
@@ -47,6 +48,7 @@ valueBack (time t) = R.Ticked t
 abbrev replyBy : Answer Value → Reply
 replyBy (accepted v) = valueBack v
 replyBy (refused n) = R.Refused (refusalOf n)
+replyBy (unsound x) = R.Refused (Unsound x)
 
 said-back : (r : Reply) → replyBy (said r) ≡ r
 said-back (R.Added h) = refl
@@ -61,7 +63,7 @@ said-back (R.Found p) = go p
     go P.Fired = refl
     go P.Gone = refl
 said-back (R.Ticked t) = refl
-said-back (R.Refused r) = ap R.Refused (refusal-back r)
+said-back (R.Refused r) = refusal-back replyBy R.Refused (λ n. refl) (λ x. refl) r
 
 -- what is said tells any two replies apart
 pub said-apart : TellsApart said
@@ -129,11 +131,12 @@ least-apart = undone-apart saidLeast leastBack back
     leastBack (accepted none) = L.Nothing
     leastBack (accepted (some z)) = L.Nanos z
     leastBack (refused n) = L.Refused (refusalOf n)
+    leastBack (unsound x) = L.Refused (Unsound x)
 
     back : (r : Least) → leastBack (saidLeast r) ≡ r
     back L.Nothing = refl
     back (L.Nanos z) = refl
-    back (L.Refused r) = ap L.Refused (refusal-back r)
+    back (L.Refused r) = refusal-back leastBack L.Refused (λ n. refl) (λ x. refl) r
 
 pub time-left-no-second : NoSecond (λ (q : Set × Handle × ℕ) (r : Left). TellsLeft (q .0) (q .1) (q .2) r)
 time-left-no-second = by-rule saidLeft (λ (q : Set × Handle × ℕ). timeLeftOf (q .0) (q .1) (q .2)) left-apart

@@ -8,7 +8,7 @@ use Prim.Native.Nat.{ℕ, zero, suc, _+_}
 use lib.Dec.{ltb, leb, eqb}
 use lib.ListN.{set}
 use Rattle.theory.specs.First.{firstBad}
-use Rattle.refusals.specs.Answer.{Answer, accepted, refused}
+use Rattle.refusals.specs.Answer.{Answer, accepted, refused, unsound}
 use Rattle.heap.specs.Capacity.{cap}
 use Rattle.heap.specs.declared.Slot.{Slot}
 use Rattle.heap.specs.declared.Entry.{Entry}
@@ -94,6 +94,7 @@ droppedOf h (Held.At q) = removeSound h q .state
 abbrev pub heldBy : Answer (Slot × ℕ) → Held
 heldBy (accepted v) = Held.At (v .0)
 heldBy (refused n) = Held.Nothing
+heldBy (unsound f) = Held.Nothing
 
 -- a place that a drain frees: nothing of the old timer is left but the use number, one higher; retired where that is used up
 abbrev pub freedOf : ℕ → Timer

@@ -31,6 +31,7 @@ use Rattle.state.specs.Handles.{handle-discrete}
 use Rattle.state.specs.Faults.{soundOf}
 use Rattle.state.proofs.Test.{sound-tells}
 use Rattle.moves.specs.Rules.{touchedOf, taken, lowestFree, settledOf, drainFrom, dueBy, rungOf, ringFrom, advancedOf}
+use Rattle.timers.proofs.Guarding.{sound-none}
 use Rattle.timers.specs.declared.Call.{Call}
 use Rattle.timers.specs.declared.Call.the-variants as C
 use Rattle.timers.specs.Values.{Value, nothing, handle}
@@ -71,25 +72,25 @@ added = touchedOf freshOf 0 (Live 0 10)
 -- an add to the fresh set
 adds : step freshOf (C.Add 10) words ≡ with-list words (gives added (handle its))
 unfolding step addOf guarded lowestFree taken firstBad
-adds = rw (never-unsound []) refl
+adds = rw (sound-none freshOf (never-unsound [])) refl
 
 -- the drain after it
 drains : step added C.Drain words ≡ with-list words (gives (stuck 0) nothing)
 unfolding step drainOf guarded touchedOf drainFrom settledOf pushSound
 drains =
     let o : soundOf added ≡ true = ap (λ q. soundOf (q .state .set)) (sym adds) ∙ never-unsound ((C.Add 10, words) ∷ []) in
-    rw o refl
+    rw (sound-none added o) refl
 
 -- one reset more
 resets : (n : ℕ) → soundOf (stuck n) ≡ true → step (stuck n) (C.Reset its 20) words ≡ with-list words (gives (stuck (suc n)) nothing)
 unfolding step resetOf guarded liveAt touchedOf
-resets zero o = rw o refl
-resets (suc n) o = rw o (ap (λ w. with-list words (gives (awaiting w) nothing)) (omega arith))
+resets zero o = rw (sound-none (stuck zero) o) refl
+resets (suc n) o = rw (sound-none (stuck (suc n)) o) (ap (λ w. with-list words (gives (awaiting w) nothing)) (omega arith))
 
 -- an advance to 10 where the word has come back to 0
 rings : soundOf (awaiting 0) ≡ true → seen (handed (step (awaiting 0) (C.Advance 10) words)) .reports ≡ its ∷ []
 unfolding filterMap step advanceOf guarded advancedOf ringFrom dueBy rungOf pushSound pushedOf takenOf addedOf putAt upFrom
-rings o = rw o refl
+rings o = rw (sound-none (awaiting 0) o) refl
 
 -- THE RUNS
 

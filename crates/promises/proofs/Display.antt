@@ -17,7 +17,9 @@ use Rattle.theory.proofs.Least.{Told, least-told}
 use Rattle.theory.proofs.Tests.{none-some, true-false, and-left, and-right, is-false, ref-true, true-ref, ref-le}
 use Rattle.theory.proofs.Occurs.{times-same}
 use Rattle.refusals.specs.declared.Refusal.the-variants.{Unsound, Closed}
-use Rattle.refusals.specs.Answer.{Answer, accepted, refused, refuse}
+use Rattle.refusals.specs.declared.fault.Fault.{Fault}
+use Rattle.refusals.proofs.Refusing.{never}
+use Rattle.refusals.specs.Answer.{Answer, accepted, refused, refuse, unsound}
 use Rattle.refusals.specs.Times.{differenceOf}
 use Rattle.refusals.proofs.Differences.{minus-over}
 use Rattle.refusals.proofs.Times.{difference-value}
@@ -27,13 +29,13 @@ use Rattle.word.specs.Rules.{firedIn}
 use Rattle.state.specs.declared.Set.{Set}
 use Rattle.state.specs.declared.Handle.{Handle}
 use Rattle.state.specs.Handles.{handle-discrete}
-use Rattle.state.specs.Faults.{soundOf}
+use Rattle.state.specs.Faults.{faultOf, soundOf}
 use Rattle.state.proofs.Test.{sound-tells}
 use Rattle.timers.specs.declared.Call.{Call}
 use Rattle.timers.specs.declared.Call.the-variants as C
-use Rattle.timers.specs.Calls.{Timing, liveAt, living, doorOf}
+use Rattle.timers.specs.Calls.{judged, Timing, liveAt, living, doorOf}
 use Rattle.timers.specs.Left.{leftAt, timeLeftBy, timeLeftOf, pendingAt, orNone, leastBy, leastLeftOf, soonestOf}
-use Rattle.timers.proofs.Guarding.{not-both}
+use Rattle.timers.proofs.Guarding.{sound-none}
 use Rattle.timers.proofs.Shortest.{least-open}
 use Rattle.laws.specs.EntryOf.{entryOf, waiting}
 use Rattle.laws.proofs.Handles.Pending.{pending-place, handleOf, place-pending, left-of, left-closed, least-closed}
@@ -108,12 +110,13 @@ module _ (B : Type 0) (s : Set) (L : Ledger) (ok : soundOf s ≡ true) (c : s .c
   unfolding timeLeftOf doorOf
   shown N h = go (liveAt s h) refl (tracks h)
     where
-      dead : (b x : Bool) (o : Option Timing) → b ≡ true → x ≡ false → o ≡ none → timeLeftBy N (cond b (cond x (refuse Closed) (living o)) (refuse Unsound)) ≡ refused 3
+      dead : (b : Option Fault) (x : Bool) (o : Option Timing) → b ≡ none → x ≡ false → o ≡ none
+          → timeLeftBy N (judged b (cond x (refuse Closed) (living o)) (λ y. refuse (Unsound y))) ≡ refused 3
       dead b x o p q e = rw (p, q, e)
 
       go : (o : Option Timing) → liveAt s h ≡ o → Stands B o (waiting s (h .place .0)) (entryOf s (h .place .0)) (L .line h)
           → timeLeftOf s h N ≡ cond (L .line h .live) (differenceOf (L .line h .due) N) (refused 3)
-      go none e k = dead (soundOf s) (s .closed) (liveAt s h) ok c e ∙ sym (ap (λ (b : Bool). cond b (differenceOf (L .line h .due) N) (refused 3)) k)
+      go none e k = dead (faultOf s) (s .closed) (liveAt s h) (sound-none s ok) c e ∙ sym (ap (λ (b : Bool). cond b (differenceOf (L .line h .due) N) (refused 3)) k)
       go (some t) e k =
           left-of s N h t ok c e ∙ sym (ap (λ (b : Bool). cond b (differenceOf (L .line h .due) N) (refused 3)) (k .known) ∙ ap (λ (d : ℕ). differenceOf d N) (k .agreed))
 
@@ -172,7 +175,8 @@ shown-some N (some d) z e = (d, refl, go (differenceOf d N) e)
   where
     go : (a : Answer ℤ) → orNone a ≡ accepted (some z) → a ≡ accepted z
     go (accepted y) e = let q : y ≡ z = cc in ap accepted q
-    go (refused n) e = absurd (not-both (sym e))
+    go (refused n) e = never refl e
+    go (unsound x) e = never refl e
 
 shown-none : (N : ℕ) (o : Option ℕ) → shownFor N o ≡ accepted none → o ≡ none
 shown-none N none e = refl
@@ -180,7 +184,8 @@ shown-none N (some d) e = absurd (go (differenceOf d N) e)
   where
     go : (a : Answer ℤ) → orNone a ≡ accepted none → ⊥
     go (accepted y) e = let q : some y ≡ none = cc in none-some q refl
-    go (refused n) e = not-both (sym e)
+    go (refused n) e = never refl e
+    go (unsound x) e = never refl e
 
 -- the rule says the same of the earliest deadline
 by-shown : (N : ℕ) (o : Option ℕ) → leastBy (through (leftAt N) o) ≡ shownFor N o

@@ -4,11 +4,13 @@ pub mod Ledger
 pub mod OneMoment
 pub mod ByClause
 pub mod Table
+pub mod FaultTold
 pub mod Bench
 pub mod Agreement
 pub mod Useless
 pub mod Overfull
 pub mod Meeting
+pub mod Faultless
 pub mod Engine
 pub mod Functions
 pub mod Timeouts

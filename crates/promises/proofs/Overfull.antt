@@ -14,7 +14,7 @@ use Rattle.theory.specs.First.{firstBad}
 use Rattle.theory.proofs.First.{all-none}
 use Rattle.theory.proofs.Order.{split}
 use Rattle.theory.proofs.Update.{upd-same, upd-other}
-use Rattle.refusals.specs.Answer.{Answer, accepted, refused, isAccepted}
+use Rattle.refusals.specs.Answer.{Answer, accepted, refused, isAccepted, unsound}
 use Rattle.heap.specs.Capacity.{cap}
 use Rattle.state.specs.declared.Handle.{Handle}
 use Rattle.state.specs.Handles.{handle-discrete}
@@ -112,6 +112,7 @@ boundless-fails E v m = fill E v m cap 0 refl [] (record { unclosed = refl; belo
 never : (a : Answer Value) → onePlaceMore a ≢ refused 4
 never (accepted v) e = let z : _≡_ {A = ℕ} 1 0 = ap (λ x. bit (isAccepted x)) e in absurd (omega arith)
 never (refused n) e = let z : _≡_ {A = ℕ} 1 0 = ap (λ x. bit (isAccepted x)) e in absurd (omega arith)
+never (unsound f) e = let z : _≡_ {A = ℕ} 1 0 = ap (λ x. bit (isAccepted x)) e in absurd (omega arith)
 
 pub overfull-fails : Meets overfull every → ⊥
 overfull-fails = boundless-fails overfull (λ s l. never (ours .step s (C.Add 10) l .answer))

@@ -7,7 +7,7 @@ use mathlib.Core.Option.{none, some}
 use mathlib.Core.List.{List}
 use Prim.Native.Nat.{ℕ}
 use Rattle.theory.proofs.Tests.{none-some, is-false, true-false}
-use Rattle.refusals.specs.Answer.{Answer, accepted, refused}
+use Rattle.refusals.specs.Answer.{Answer, accepted, refused, unsound}
 use Rattle.clock.specs.declared.Clock.the-variants.{Running, Paused}
 use Rattle.state.specs.declared.Set.{Set}
 use Rattle.timers.specs.declared.Call.{Call}
@@ -52,14 +52,11 @@ table (clock-advance (Running base start) d) = refl
 table (clock-advance (Paused base) d) = advance-row base d
 table (a-record bytes) = record-row bytes
 
--- an answer that refuses with n, and one that does not refuse
-refused-by : {A : Type 0} (a : Answer A) (n : ℕ) → refusalIn a ≡ some n → a ≡ refused n
-refused-by (accepted v) n e = absurd (none-some refl e)
-refused-by (refused m) n e = let d : m ≡ n = cc in ap refused d
-
+-- an answer that does not refuse
 accepted-by : {A : Type 0} (a : Answer A) → refusalIn a ≡ none → (v : A) × (a ≡ accepted v)
 accepted-by (accepted v) e = (v, refl)
 accepted-by (refused m) e = absurd (none-some e refl)
+accepted-by (unsound f) e = absurd (none-some e refl)
 
 -- every row of a call on a set stands in the order
 set-in-turn : (s : Set) (c : Call) (l : List ℕ) → within (rowsOn s c l) inTurn ≡ true
@@ -91,12 +88,12 @@ all-in-turn (clock-advance c d) = refl
 all-in-turn (a-record bytes) = refl
 
 -- what is refused with n: row n holds, and none before it
-pub refused-row : (q : Asked) (n : ℕ) → answerTo q ≡ refused n → Decides q n
-refused-row q n e = found-leads (rowb q) inTurn n (sym (table q) ∙ ap refusalIn e)
+pub refused-row : (q : Asked) (n : ℕ) → refusalIn (answerTo q) ≡ some n → Decides q n
+refused-row q n e = found-leads (rowb q) inTurn n (sym (table q) ∙ e)
 
 -- row n holds, and none before it: it is refused with n
-pub row-refused : (q : Asked) (n : ℕ) → Decides q n → answerTo q ≡ refused n
-row-refused q n t = refused-by (answerTo q) n (table q ∙ leads-found (rowb q) inTurn n t)
+pub row-refused : (q : Asked) (n : ℕ) → Decides q n → refusalIn (answerTo q) ≡ some n
+row-refused q n t = table q ∙ leads-found (rowb q) inTurn n t
 
 -- of what is accepted no row holds
 pub accepted-no-row : (q : Asked) (v : Gives q) → answerTo q ≡ accepted v → (n : ℕ) → rowb q n ≡ false

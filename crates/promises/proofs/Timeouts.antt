@@ -10,7 +10,7 @@ use Prim.Native.Nat.{ℕ, _+_, _≤_}
 use borrow.Author.Tests.{le-leb}
 use Rattle.theory.specs.Occurs.{times, has}
 use Rattle.theory.proofs.Tests.{none-some, true-false, and-left, is-false}
-use Rattle.refusals.specs.Answer.{Answer, accepted, refused}
+use Rattle.refusals.specs.Answer.{Answer, accepted, refused, unsound}
 use Rattle.state.specs.declared.Handle.{Handle}
 use Rattle.state.specs.Handles.{handle-discrete}
 use Rattle.timers.specs.declared.Call.{Call}
@@ -38,6 +38,7 @@ handle-answer (accepted (wake t)) h e = absurd (none-some refl e)
 handle-answer (accepted (polled n)) h e = absurd (none-some refl e)
 handle-answer (accepted (time t)) h e = absurd (none-some refl e)
 handle-answer (refused n) h e = absurd (none-some refl e)
+handle-answer (unsound f) h e = absurd (none-some refl e)
 
 closed-from : (cs : List (Call × List ℕ)) (r : Run ours) → r .ledger .closed ≡ true → from ours r cs .ledger .closed ≡ true
 unfolding from next

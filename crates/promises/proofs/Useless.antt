@@ -17,7 +17,8 @@ use Rattle.theory.specs.First.{firstBad}
 use Rattle.theory.specs.Update.{upd}
 use Rattle.theory.specs.Occurs as Occurs
 use Rattle.theory.proofs.Update.{upd-all}
-use Rattle.refusals.specs.Answer.{Answer, accepted, refused}
+use Rattle.refusals.specs.declared.fault.Fault.the-variants.{Place}
+use Rattle.refusals.specs.Answer.{Answer, accepted, refused, unsound}
 use Rattle.heap.specs.Capacity.{cap}
 use Rattle.heap.specs.Rules.{putAt, upFrom, takenOf, addedOf, pushedOf, vacatedOf, filledOf, removedOf}
 use Rattle.heap.specs.Faults.{fullAt, emptyAt, nextAt, countOk, positionOk, countFault, positionFault, orderFault, chainFault, faultOf}
@@ -34,7 +35,7 @@ use Rattle.timers.specs.Calls as Set
 use Rattle.promises.specs.Bench.{_with-use_, sameNumbers, code}
 use Rattle.promises.specs.Turns.{Ledger, blank, begun, at, owed, note, takenIn, Least, next, from, run, Bounded, Meets, every}
 use Rattle.promises.proofs.Meeting.{wake-after-turn}
-use Rattle.promises.specs.Useless.{refusing, full, deaf, clogged, unclosed, nameless, repeating, reopened, freeing, pending, eager, idle, undrained, roomless, mute, stuck, heedless, asleep, dozing, restless, scribbling, hasty}
+use Rattle.promises.specs.Useless.{refusing, complaining, full, deaf, clogged, unclosed, nameless, repeating, reopened, freeing, pending, eager, idle, undrained, roomless, mute, stuck, heedless, asleep, dozing, restless, scribbling, hasty}
 
 -- a list of just enough room
 abbrev room : List ℕ
@@ -61,6 +62,11 @@ no-wake L (some t) e o f = let z : _≡_ {A = ℕ} 0 1 = cc in differ z
 pub refusing-fails : Meets refusing every → ⊥
 unfolding from takenIn firstBad
 refusing-fails m = unlike (refused 2) (accepted (handle (0 with-use 0))) refl (m [] refl .answers (C.Add 10) [] refl)
+
+-- add 10: it must be given 0:0, and is refused
+pub complaining-fails : Meets complaining every → ⊥
+unfolding from takenIn firstBad
+complaining-fails m = unlike (unsound (Place 0)) (accepted (handle (0 with-use 0))) refl (m [] refl .answers (C.Add 10) [] refl)
 
 -- add 10: it must be given 0:0, and is refused
 pub full-fails : Meets full every → ⊥

@@ -8,7 +8,8 @@ use lib.Dec.{eqb}
 use lib.ListN.{replicate}
 use Rattle.heap.specs.Capacity.{cap}
 use mathlib.Core.Option.{none, some}
-use Rattle.refusals.specs.Answer.{Answer, accepted, refused, Outcome}
+use Rattle.refusals.specs.Faults.{kindOf, whereOf}
+use Rattle.refusals.specs.Answer.{Answer, accepted, refused, Outcome, unsound}
 use Rattle.heap.specs.declared.Entry.{Entry}
 use Rattle.heap.specs.declared.Slot.{Slot}
 use Rattle.heap.specs.declared.Heap.{Heap}
@@ -68,6 +69,7 @@ row n c = record { number = n; asked = c }
 abbrev pub answers : Answer ℕ → ℕ → Bool
 answers (accepted t) u = eqb t u
 answers (refused n) u = false
+answers (unsound f) u = false
 
 -- a heap in the middle of a row: the slots that pushes got so far, and the swaps of the last call
 pub record Run : Type 0 where
@@ -78,11 +80,13 @@ pub record Run : Type 0 where
 abbrev pub pushed : Run → Outcome Heap (Slot × ℕ) → Answer (Slot × ℕ) → Run
 pushed r o (accepted v) = record { heap = o .state; slots = r .slots ++ (v .0 .0 ∷ []); swaps = v .1 }
 pushed r o (refused n) = r
+pushed r o (unsound f) = r
 
 abbrev pub removed : Run → Outcome Heap Off → Answer Off → Run
 removed r o (accepted (some v)) = record { heap = o .state; slots = r .slots; swaps = v .1 }
 removed r o (accepted none) = r
 removed r o (refused n) = r
+removed r o (unsound f) = r
 
 abbrev pub made : Run → HeapCall → Run
 made r (push d) = let o = pushOf (r .heap) d 0 (record { 0 = 0 }) in pushed r o (o .answer)
@@ -121,6 +125,7 @@ valueCode (time t) = 6 ∷ t ∷ []
 abbrev pub code : Answer Value → List ℕ
 code (accepted v) = valueCode v
 code (refused n) = 7 ∷ n ∷ []
+code (unsound f) = 8 ∷ kindOf f ∷ whereOf f ∷ []
 
 -- whether the calls answer so, one after the other
 abbrev pub answered : Lent → List Call → List (Answer Value) → Bool

@@ -34,8 +34,8 @@ use Rattle.records.specs.declared.fields.Fields.{Fields}
 -- OF A SET
 
 -- 1 Unsound: the state handed in is not sound
-abbrev pub unsound : Set → Bool
-unsound s = not (soundOf s)
+abbrev pub damaged : Set → Bool
+damaged s = not (soundOf s)
 
 -- 2 Closed: the set is closed
 abbrev pub shut : Set → Bool

@@ -7,7 +7,8 @@ use mathlib.Core.List.{List, [], _∷_}
 use Prim.Native.Nat.{ℕ, _-_}
 use lib.Dec.{eqb}
 use lib.ListN.{replicate}
-use Rattle.refusals.specs.Answer.{Answer, accepted, refused}
+use Rattle.refusals.specs.Faults.{kindOf, whereOf}
+use Rattle.refusals.specs.Answer.{Answer, accepted, refused, unsound}
 use Rattle.heap.specs.Capacity.{cap}
 use Rattle.word.specs.Rules.{pollOf}
 use Rattle.interval.specs.declared.Policy.the-variants.{Skip}
@@ -53,6 +54,7 @@ row n c = record { number = n; asked = c }
 abbrev pub timeCode : Answer ℕ → List ℕ
 timeCode (accepted t) = 0 ∷ t ∷ []
 timeCode (refused n) = 1 ∷ n ∷ []
+timeCode (unsound f) = 2 ∷ kindOf f ∷ whereOf f ∷ []
 
 abbrev pub lifeCode : Life → List ℕ
 lifeCode Free = 0 ∷ []

@@ -4,7 +4,7 @@ use mathlib.Core.Bool.{Bool, cond, _||_}
 use mathlib.Core.List.{List}
 use Prim.Native.Nat.{ℕ}
 use lib.Dec.{eqb, ltb}
-use Rattle.refusals.specs.Answer.{Answer, accepted, refused, Outcome, kept}
+use Rattle.refusals.specs.Answer.{Answer, accepted, refused, Outcome, kept, unsound}
 use Rattle.interval.specs.Rules.{tickOf}
 use Rattle.state.specs.declared.Set.{Set}
 use Rattle.state.specs.State.{freshOf}
@@ -74,9 +74,13 @@ Way = Set → Call → List ℕ → Left Set
 abbrev pub but : (Call → Bool) → Way → Engine
 but those otherwise = record { State = Set; fresh = freshOf; step = λ s c l. cond (those c) (otherwise s c l) (ours .step s c l) }
 
+-- refused by this answer, and nothing done
+abbrev pub refusedBy : Answer Value → Way
+refusedBy a s c l = kept (s, l) a
+
 -- refused with n, and nothing done
 abbrev pub refusedWith : ℕ → Way
-refusedWith n s c l = kept (s, l) n
+refusedWith n = refusedBy (refused n)
 
 -- answered, and not made
 abbrev pub unmade : Way
@@ -90,6 +94,7 @@ answering f s c l = let o = ours .step s c l in record { state = o .state; answe
 abbrev pub said : Value → Answer Value → Answer Value
 said v (accepted w) = accepted v
 said v (refused n) = refused n
+said v (unsound f) = unsound f
 
 abbrev pub saying : Value → Way
 saying v = answering (said v)

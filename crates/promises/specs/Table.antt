@@ -10,22 +10,25 @@ use Prim.Native.Nat.{ℕ, _+_}
 use lib.Dec.{eqb}
 use lib.IntN.{ℤ}
 use Rattle.theory.specs.Counting.{Mem}
-use Rattle.refusals.specs.Answer.{Answer, accepted, refused, Nothing}
+use Rattle.refusals.specs.declared.fault.Fault.{Fault}
+use Rattle.refusals.specs.Answer.{Answer, accepted, refused, unsound, Nothing}
 use Rattle.heap.specs.declared.Slot.{Slot}
 use Rattle.heap.specs.declared.Place.{Place}
 use Rattle.heap.specs.declared.Entry.{Entry}
 use Rattle.heap.specs.declared.Heap.{Heap}
+use Rattle.heap.specs.Faults as Heap
 use Rattle.heap.specs.Calls.{Off, pushOf, removeOf, popOf, peekOf}
 use Rattle.clock.specs.declared.Clock.{Clock}
 use Rattle.clock.specs.Rules.{readingOf, pauseOf, resumeOf, advanceOf}
 use Rattle.state.specs.declared.Set.{Set}
+use Rattle.state.specs.Faults as Set
 use Rattle.state.specs.declared.Handle.{Handle}
 use Rattle.timers.specs.declared.Call.{Call}
 use Rattle.timers.specs.declared.Call.the-variants as C
 use Rattle.timers.specs.Calls.{Value, step}
 use Rattle.timers.specs.Left.{timeLeftOf, leastLeftOf}
 use Rattle.records.specs.Records.{fieldsOf, decodeOf}
-use Rattle.promises.specs.Conditions.{unsound, shut, lifeAt, dead, full, short, dueIn, notFired, zeroPeriod, above, tickSum, far, leastFar, inconsistent, holdsAll, vacant, stopped, runs, behind, readAbove, sumAbove, bad}
+use Rattle.promises.specs.Conditions.{damaged, shut, lifeAt, dead, full, short, dueIn, notFired, zeroPeriod, above, tickSum, far, leastFar, inconsistent, holdsAll, vacant, stopped, runs, behind, readAbove, sumAbove, bad}
 
 -- WHAT IS ASKED
 
@@ -79,24 +82,46 @@ answerTo (a-record bytes) = decodeOf bytes
 abbrev pub refusalIn : {A : Type 0} → Answer A → Option ℕ
 refusalIn (accepted v) = none
 refusalIn (refused n) = some n
+refusalIn (unsound f) = some 1
+
+-- the fault that an answer carries, or none
+abbrev pub faultIn : {A : Type 0} → Answer A → Option Fault
+faultIn (accepted v) = none
+faultIn (refused n) = none
+faultIn (unsound f) = some f
+
+-- the first fault of what it is asked on; a clock and a record have none
+abbrev pub faultAsked : Asked → Option Fault
+faultAsked (heap-push h at g place) = Heap.faultOf h
+faultAsked (heap-remove h s) = Heap.faultOf h
+faultAsked (heap-pop h) = Heap.faultOf h
+faultAsked (heap-peek h) = Heap.faultOf h
+faultAsked (on-set s c l) = Set.faultOf s
+faultAsked (time-left s h N) = Set.faultOf s
+faultAsked (least-left s N) = Set.faultOf s
+faultAsked (clock-reading c raw) = none
+faultAsked (clock-pause c raw) = none
+faultAsked (clock-resume c raw) = none
+faultAsked (clock-advance c d) = none
+faultAsked (a-record bytes) = none
 
 -- THE TABLE
 
 -- the calls on a set
 abbrev pub rowsOn : Set → Call → List ℕ → List (ℕ × Bool)
-rowsOn s (C.Add d) l = (1, unsound s) ∷ (2, shut s) ∷ (4, full s) ∷ []
-rowsOn s (C.Reset h d) l = (1, unsound s) ∷ (2, shut s) ∷ (3, dead s h) ∷ []
-rowsOn s (C.Cancel h) l = (1, unsound s) ∷ (2, shut s) ∷ (3, dead s h) ∷ []
-rowsOn s C.Drain l = (1, unsound s) ∷ (2, shut s) ∷ []
-rowsOn s (C.Advance N) l = (1, unsound s) ∷ (2, shut s) ∷ (5, short l) ∷ []
-rowsOn s (C.Turn N) l = (1, unsound s) ∷ (2, shut s) ∷ (5, short l) ∷ []
-rowsOn s C.NextWake l = (1, unsound s) ∷ []
-rowsOn s (C.Poll h) l = (1, unsound s) ∷ (3, dead s h) ∷ []
-rowsOn s C.Close l = (1, unsound s) ∷ (2, shut s) ∷ []
+rowsOn s (C.Add d) l = (1, damaged s) ∷ (2, shut s) ∷ (4, full s) ∷ []
+rowsOn s (C.Reset h d) l = (1, damaged s) ∷ (2, shut s) ∷ (3, dead s h) ∷ []
+rowsOn s (C.Cancel h) l = (1, damaged s) ∷ (2, shut s) ∷ (3, dead s h) ∷ []
+rowsOn s C.Drain l = (1, damaged s) ∷ (2, shut s) ∷ []
+rowsOn s (C.Advance N) l = (1, damaged s) ∷ (2, shut s) ∷ (5, short l) ∷ []
+rowsOn s (C.Turn N) l = (1, damaged s) ∷ (2, shut s) ∷ (5, short l) ∷ []
+rowsOn s C.NextWake l = (1, damaged s) ∷ []
+rowsOn s (C.Poll h) l = (1, damaged s) ∷ (3, dead s h) ∷ []
+rowsOn s C.Close l = (1, damaged s) ∷ (2, shut s) ∷ []
 rowsOn s (C.Tick h p period N) l =
-    (1, unsound s) ∷ (2, shut s) ∷ (3, dead s h) ∷ (10, notFired s h) ∷ (9, zeroPeriod s h p period N)
+    (1, damaged s) ∷ (2, shut s) ∷ (3, dead s h) ∷ (10, notFired s h) ∷ (9, zeroPeriod s h p period N)
     ∷ (6, above (tickSum p (dueIn (lifeAt s h)) period N)) ∷ []
-rowsOn s (C.Restart h period N) l = (1, unsound s) ∷ (2, shut s) ∷ (3, dead s h) ∷ (6, above (N + period)) ∷ []
+rowsOn s (C.Restart h period N) l = (1, damaged s) ∷ (2, shut s) ∷ (3, dead s h) ∷ (6, above (N + period)) ∷ []
 
 -- call by call, the rows that can refuse it, with their conditions
 abbrev pub rowsOf : Asked → List (ℕ × Bool)
@@ -105,8 +130,8 @@ rowsOf (heap-remove h s) = (1, inconsistent h) ∷ (11, vacant h s) ∷ []
 rowsOf (heap-pop h) = (1, inconsistent h) ∷ []
 rowsOf (heap-peek h) = (1, inconsistent h) ∷ []
 rowsOf (on-set s c l) = rowsOn s c l
-rowsOf (time-left s h N) = (1, unsound s) ∷ (2, shut s) ∷ (3, dead s h) ∷ (6, far (dueIn (lifeAt s h)) N) ∷ []
-rowsOf (least-left s N) = (1, unsound s) ∷ (2, shut s) ∷ (6, leastFar s N) ∷ []
+rowsOf (time-left s h N) = (1, damaged s) ∷ (2, shut s) ∷ (3, dead s h) ∷ (6, far (dueIn (lifeAt s h)) N) ∷ []
+rowsOf (least-left s N) = (1, damaged s) ∷ (2, shut s) ∷ (6, leastFar s N) ∷ []
 rowsOf (clock-reading c raw) = (7, behind c raw) ∷ (6, readAbove c raw) ∷ []
 rowsOf (clock-pause c raw) = (8, stopped c) ∷ (7, behind c raw) ∷ (6, readAbove c raw) ∷ []
 rowsOf (clock-resume c raw) = (8, runs c) ∷ []

@@ -15,7 +15,7 @@ use Rattle.theory.specs.First.{firstBad}
 use Rattle.theory.specs.Update.{upd}
 use Rattle.theory.specs.Occurs.{times, has}
 use Rattle.theory.specs.Weights.{Rising}
-use Rattle.refusals.specs.Answer.{Answer, accepted, refused, valueOr, isAccepted, Outcome}
+use Rattle.refusals.specs.Answer.{Answer, accepted, refused, valueOr, isAccepted, Outcome, unsound}
 use Rattle.heap.specs.Capacity.{cap}
 use Rattle.interval.specs.Rules.{tickOf, restartOf}
 use Rattle.state.specs.declared.Handle.{Handle}
@@ -148,6 +148,7 @@ ifLive l a = cond (l .live) a (refused 3)
 abbrev pub ifTimed : Answer ℕ → Value → Answer Value
 ifTimed (accepted t) v = accepted v
 ifTimed (refused n) v = refused n
+ifTimed (unsound f) v = unsound f
 
 -- WHAT A CALL MUST ANSWER: this very answer; or it is accepted, with counts of the reported and the popped, or with a wake
 pub data Must : Type 0 where

@@ -7,7 +7,8 @@ use mathlib.Core.List.{List, []}
 use Prim.Native.Nat.{ℕ}
 use lib.Dec.{eqb}
 use lib.ListN.{set, length, replicate}
-use Rattle.refusals.specs.Answer.{Answer, accepted, refused, isAccepted}
+use Rattle.refusals.specs.declared.fault.Fault.the-variants.{Place}
+use Rattle.refusals.specs.Answer.{Answer, accepted, refused, unsound, isAccepted}
 use Rattle.heap.specs.Capacity.{cap}
 use Rattle.state.specs.declared.Set.{Set}
 use Rattle.state.specs.State.{freshOf}
@@ -18,11 +19,15 @@ use Rattle.timers.specs.Values.{Value, nothing, handle, counts, wake, polled}
 use Rattle.promises.specs.Bench.{_with-use_}
 use Rattle.promises.specs.Turns.{Engine}
 use Rattle.promises.specs.Engine.{ours}
-use Rattle.promises.specs.Otherwise.{Left, adds, cancels, drains, turns, rings, wakes, polls, closes, ticks, touches, but, refusedWith, answering, unmade, saying, lax, marked}
+use Rattle.promises.specs.Otherwise.{Left, adds, cancels, drains, turns, rings, wakes, polls, closes, ticks, touches, but, refusedBy, refusedWith, answering, unmade, saying, lax, marked}
 
 -- REFUSING: every call is refused with 2
 abbrev pub refusing : Engine
 refusing = but (λ c. true) (refusedWith 2)
+
+-- COMPLAINING: every call is refused with 1, for a fault of place 0
+abbrev pub complaining : Engine
+complaining = but (λ c. true) (refusedBy (unsound (Place 0)))
 
 -- FULL: every add is refused with 4
 abbrev pub full : Engine
@@ -52,6 +57,7 @@ repeating = but adds (saying (handle (0 with-use 0)))
 abbrev pub onePlaceMore : Answer Value → Answer Value
 onePlaceMore (accepted v) = accepted v
 onePlaceMore (refused n) = accepted (handle (cap with-use 0))
+onePlaceMore (unsound x) = accepted (handle (cap with-use 0))
 
 abbrev pub overfull : Engine
 overfull = but adds (answering onePlaceMore)

@@ -7,9 +7,9 @@ use Prim.Native.Nat.{ℕ}
 use native.Mathlib.Omega.{arith}
 use Rattle.theory.specs.Promise.{NoSecond, TellsApart}
 use Rattle.theory.proofs.Promise.{by-rule, undone-apart}
-use Rattle.refusals.specs.Numbers.{numberOf}
-use Rattle.refusals.specs.Answer.{Answer, accepted, refused}
-use Rattle.refusals.proofs.Apart.{refusalOf, refusal-back, number-apart}
+use Rattle.refusals.specs.declared.Refusal.the-variants.{Unsound}
+use Rattle.refusals.specs.Answer.{Answer, accepted, refused, unsound, refuse, Nothing}
+use Rattle.refusals.proofs.Apart.{refusalOf, refusal-back, refuse-apart}
 use Rattle.state.specs.declared.Set.{Set}
 use Rattle.timers.specs.declared.Call.{Call}
 use Rattle.timers.specs.Calls.{said}
@@ -31,10 +31,11 @@ use Rattle.records.specs.Promises.{Decodes, Answers, Replays, Writes}
 abbrev decodedBy : Answer Call → Decoded
 decodedBy (accepted c) = D.Call c
 decodedBy (refused n) = D.Refused (refusalOf n)
+decodedBy (unsound x) = D.Refused (Unsound x)
 
 decoded-back : (r : Decoded) → decodedBy (saidDecoded r) ≡ r
 decoded-back (D.Call c) = refl
-decoded-back (D.Refused r) = ap D.Refused (refusal-back r)
+decoded-back (D.Refused r) = refusal-back decodedBy D.Refused (λ n. refl) (λ x. refl) r
 
 decoded-apart : TellsApart saidDecoded
 decoded-apart = undone-apart saidDecoded decodedBy decoded-back
@@ -53,7 +54,7 @@ wake-apart : TellsApart saidWake
 wake-apart = undone-apart saidWake wakeBack wake-back
 
 line-apart : TellsApart saidLine
-line-apart (L.Unread r) (L.Unread r′) e = let n : numberOf r ≡ numberOf r′ = cc in ap L.Unread (number-apart r r′ n)
+line-apart (L.Unread r) (L.Unread r′) e = let n : _≡_ {A = Answer Nothing} (refuse r) (refuse r′) = cc in ap L.Unread (refuse-apart r r′ n)
 line-apart (L.Unread r) (L.Made o a w) e = let z : _≡_ {A = ℕ} 0 1 = cc in absurd (omega arith)
 line-apart (L.Made o a w) (L.Unread r) e = let z : _≡_ {A = ℕ} 0 1 = cc in absurd (omega arith)
 line-apart (L.Made o a w) (L.Made o′ a′ w′) e =

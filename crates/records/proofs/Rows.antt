@@ -81,7 +81,7 @@ line-dead = refl
 
 -- a record that makes no call; wakes; and the largest numbers
 
-pub line-bad : lineOf (unread 12) [] ≡ text "? 12\n"
+pub line-bad : lineOf (unread (refused 12)) [] ≡ text "? 12\n"
 unfolding lineOf answerText valuesText decimal
 line-bad = refl
 

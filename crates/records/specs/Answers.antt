@@ -3,8 +3,7 @@
 use mathlib.Core.Option.{Option, none, some}
 use mathlib.Core.List.{List}
 use Prim.Native.Nat.{ℕ}
-use Rattle.refusals.specs.Numbers.{numberOf}
-use Rattle.refusals.specs.Answer.{Answer, accepted, refused, Outcome}
+use Rattle.refusals.specs.Answer.{Answer, accepted, refused, unsound, refuse, Nothing, Outcome}
 use Rattle.state.specs.declared.Set.{Set}
 use Rattle.timers.specs.declared.Call.{Call}
 use Rattle.timers.specs.declared.Call.the-variants as C
@@ -17,8 +16,8 @@ use Rattle.records.specs.declared.Answered as A
 use Rattle.records.specs.Records.{decodeOf}
 
 pub data Told : Type 0 where
-  -- of a record that was refused: the refusal's number
-  unread : ℕ → Told
+  -- of a record that was refused: why
+  unread : Answer Nothing → Told
   -- of a call: its operation, what it answered, and the next wake where that is asked
   made : ℕ → Answer Value → Option ℕ → Told
 
@@ -44,6 +43,7 @@ operationOf (C.Restart h period N) = 17
 -- the wake that an answer names
 abbrev pub wakeIn : Answer Value → Option ℕ
 wakeIn (refused n) = none
+wakeIn (unsound x) = none
 wakeIn (accepted nothing) = none
 wakeIn (accepted (handle h)) = none
 wakeIn (accepted (counts n m)) = none
@@ -54,6 +54,7 @@ wakeIn (accepted (time t)) = none
 -- after an accepted advance or turn the next wake is asked of the set as it is then; after any other call it is not
 abbrev pub wakeAfter : Set → Answer Value → Option ℕ
 wakeAfter s (refused n) = none
+wakeAfter s (unsound x) = none
 wakeAfter s (accepted nothing) = none
 wakeAfter s (accepted (handle h)) = none
 wakeAfter s (accepted (counts n m)) = wakeIn (nextWakeOf s .answer)
@@ -71,7 +72,8 @@ answerOf s c l = tells c (step s c l)
 -- a record that decodes to a call is answered by it; another changes nothing
 abbrev pub answerBy : Set → Answer Call → List ℕ → Answered
 answerBy s (accepted c) l = answerOf s c l
-answerBy s (refused n) l = record { state = lent s l; told = unread n }
+answerBy s (refused n) l = record { state = lent s l; told = unread (refused n) }
+answerBy s (unsound x) l = record { state = lent s l; told = unread (unsound x) }
 
 unfoldable pub replayOf : Set → List ℕ → List ℕ → Answered
 replayOf s bytes l = answerBy s (decodeOf bytes) l
@@ -82,7 +84,7 @@ saidWake (W.At t) = some t
 saidWake W.Nothing = none
 
 abbrev pub saidLine : Line → Told
-saidLine (L.Unread r) = unread (numberOf r)
+saidLine (L.Unread r) = unread (refuse r)
 saidLine (L.Made o r w) = made o (said r) (saidWake w)
 
 abbrev pub toldBy : A.Answered → List ℕ → Answered

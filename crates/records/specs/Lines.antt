@@ -8,7 +8,7 @@ use Prim.Native.Char.{code}
 use Prim.Native.String.{String, [] as empty, _∷_ as more}
 use lib.Dec.{ltb}
 use lib.ListN.{length, take, drop}
-use Rattle.refusals.specs.Answer.{Answer, accepted, refused}
+use Rattle.refusals.specs.Answer.{Answer, accepted, refused, unsound, numberIn}
 use Rattle.heap.specs.Capacity.{cap}
 use Rattle.state.specs.declared.Handle.{Handle}
 use Rattle.state.specs.Handles.{namedBy}
@@ -72,11 +72,12 @@ valuesText (time t) w l = spaced (decimal t)
 -- 0 and the values, or the refusal
 unfoldable pub answerText : Answer Value → Option ℕ → List ℕ → List ℕ
 answerText (refused n) w l = spaced (decimal n)
+answerText (unsound x) w l = spaced (decimal 1)
 answerText (accepted v) w l = text " 0" ++ valuesText v w l
 
 -- the operation, or `?` for a record that makes no call; then what was answered
 unfoldable pub lineOf : Told → List ℕ → List ℕ
-lineOf (unread n) l = text "?" ++ (spaced (decimal n) ++ text "\n")
+lineOf (unread a) l = text "?" ++ (spaced (decimal (numberIn a)) ++ text "\n")
 lineOf (made o a w) l = decimal o ++ (answerText a w l ++ text "\n")
 
 -- how long the parts are at most: a number of 64 bits has 20 digits, one of 32 bits has 10; a number and a handle with their blanks; the

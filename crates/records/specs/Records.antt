@@ -6,8 +6,7 @@ use Prim.Native.Nat.{ℕ, zero, suc, _+_, _*_, _/_, _%_, _^_}
 use lib.Dec.{eqb}
 use lib.ListN.{getD}
 use Rattle.refusals.specs.declared.Refusal.the-variants.{BadRecord}
-use Rattle.refusals.specs.Numbers.{numberOf}
-use Rattle.refusals.specs.Answer.{Answer, accepted, refused, refuse}
+use Rattle.refusals.specs.Answer.{Answer, accepted, refuse}
 use Rattle.state.specs.declared.Handle.{Handle}
 use Rattle.timers.specs.declared.Call.{Call}
 use Rattle.timers.specs.declared.Call.the-variants as C
@@ -71,4 +70,4 @@ decodeOf bytes = callOf (fieldsOf bytes)
 -- what the code says of it
 abbrev pub saidDecoded : Decoded → Answer Call
 saidDecoded (D.Call c) = accepted c
-saidDecoded (D.Refused r) = refused (numberOf r)
+saidDecoded (D.Refused r) = refuse r

@@ -6,7 +6,7 @@ use Rattle.refusals.specs.declared.Refusal.{Refusal}
 use Rattle.refusals.specs.declared.Refusal.the-variants.{Unsound, Closed, DeadHandle, Full, ShortList, TimeOverflow, CounterBehind, WrongMode, ZeroPeriod, NotFired, VacantSlot, BadRecord}
 
 abbrev pub numberOf : Refusal → ℕ
-numberOf Unsound = 1
+numberOf (Unsound f) = 1
 numberOf Closed = 2
 numberOf DeadHandle = 3
 numberOf Full = 4

@@ -1,8 +1,11 @@
--- Worked rows of the difference of two times, each with the answer that the rules must give.
+-- Worked rows of the difference of two times, and of the faults, each with what the rules must give.
 -- Assumes nothing.
 use mathlib.Core.List.{List, [], _∷_}
 use Prim.Native.Nat.{ℕ, _+_, _-_, _^_}
 use lib.IntN.{ℤ, pos, negℤ}
+use Rattle.refusals.specs.declared.fault.Fault.{Fault}
+use Rattle.refusals.specs.declared.fault.Fault.the-variants as F
+use Rattle.refusals.specs.Faults.{kindOf, whereOf}
 use Rattle.refusals.specs.Answer.{Answer, accepted, refused}
 use Rattle.refusals.specs.Times.{differenceOf}
 
@@ -40,3 +43,25 @@ rows =
 -- what the rule says to a row
 abbrev pub ruled : Row → Answer ℤ
 ruled r = differenceOf (r .deadline) (r .reading)
+
+-- a fault, the number of its kind, and where it is: the kinds in the order in which they are tried, and 0 for a count
+pub record FaultRow : Type 0 where
+  pub fault : Fault
+  pub pair : ℕ × ℕ
+
+abbrev pub is-pair : Fault → ℕ → ℕ → FaultRow
+is-pair f k n = record { fault = f; pair = (k, n) }
+
+abbrev pub faultRows : List FaultRow
+faultRows =
+    is-pair F.Count 1 0
+    ∷ is-pair (F.Position 5) 2 5
+    ∷ is-pair (F.Order 6) 3 6
+    ∷ is-pair (F.FreeChain 7) 4 7
+    ∷ is-pair (F.List 8) 5 8
+    ∷ is-pair (F.Place 65535) 6 65535
+    ∷ []
+
+-- what the rules say to a row
+abbrev pub pairOf : FaultRow → ℕ × ℕ
+pairOf r = (kindOf (r .fault), whereOf (r .fault))

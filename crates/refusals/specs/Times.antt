@@ -12,8 +12,7 @@ use Rattle.refusals.specs.declared.time.Time.{Time}
 use Rattle.refusals.specs.declared.time.Time.the-variants.{At, Refused}
 use Rattle.refusals.specs.declared.time.Left.{Left}
 use Rattle.refusals.specs.declared.time.Left.the-variants as L
-use Rattle.refusals.specs.Numbers.{numberOf}
-use Rattle.refusals.specs.Answer.{Answer, accepted, refused, refuse}
+use Rattle.refusals.specs.Answer.{Answer, accepted, refuse}
 
 -- a sum of times: refused with 6 where it is above 2^64-1
 abbrev pub timely : ℕ → Answer ℕ
@@ -22,7 +21,7 @@ timely t = cond (ltb t (2 ^ 64)) (accepted t) (refuse TimeOverflow)
 -- what a `Time` says: its time, or the refusal's number
 abbrev pub said : Time → Answer ℕ
 said (At t) = accepted t
-said (Refused r) = refused (numberOf r)
+said (Refused r) = refuse r
 
 -- `sum` of a and b answers r
 abbrev pub Sums : ℕ → ℕ → Time → Type 0
@@ -43,7 +42,7 @@ differenceOf a b = signed (pos a -ℤ pos b)
 -- what a `Left` says: its number of nanoseconds, or the refusal's number
 abbrev pub saidLeft : Left → Answer ℤ
 saidLeft (L.Nanos z) = accepted z
-saidLeft (L.Refused r) = refused (numberOf r)
+saidLeft (L.Refused r) = refuse r
 
 -- `difference` of a and b answers r
 abbrev pub Differs : ℕ → ℕ → Left → Type 0

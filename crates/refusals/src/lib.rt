@@ -1,12 +1,14 @@
 // Why a call is refused: the table of refusals, one case a number. A name says what is wrong, and `number` gives the number
 // that the outside world knows.
+pub mod fault;
 pub mod time;
 
+use crate::fault::Fault;
 ghost use Rattle.refusals.specs.Numbers.{Numbers};
 
 pub enum Refusal {
-    // the state handed in is not sound
-    Unsound,
+    // the state handed in is not sound: its first fault
+    Unsound(Fault),
     // the set of timers is closed
     Closed,
     // the handle names no live timer: its place is out of range, free, retired or cancelled, or has another use number
@@ -36,7 +38,7 @@ pub fn number(r: Refusal) -> u8
     ensures { λ n. ⌜ Numbers r n ⌝ }
 {
     match r {
-        Refusal::Unsound => 1,
+        Refusal::Unsound(_) => 1,
         Refusal::Closed => 2,
         Refusal::DeadHandle => 3,
         Refusal::Full => 4,

@@ -7,7 +7,7 @@ use mathlib.Core.List.{List}
 use Prim.Native.Nat.{ℕ, zero, suc, _+_, _%_, _^_}
 use lib.Dec.{ltb}
 use lib.ListN.{getD, replicate}
-use Rattle.refusals.specs.Answer.{Answer, accepted, refused, Outcome}
+use Rattle.refusals.specs.Answer.{Answer, accepted, refused, unsound, Outcome}
 use Rattle.heap.specs.Capacity.{cap}
 use Rattle.state.specs.declared.Set.{Set}
 use Rattle.state.specs.declared.Handle.{Handle}
@@ -42,6 +42,7 @@ countsIn (accepted (wake t)) = countsOf 0 0
 countsIn (accepted (polled n)) = countsOf 0 0
 countsIn (accepted (time t)) = countsOf 0 0
 countsIn (refused n) = countsOf 0 0
+countsIn (unsound x) = countsOf 0 0
 
 -- so many adds, due at d and after
 unfoldable pub addFrom : ℕ → ℕ → Set → Set

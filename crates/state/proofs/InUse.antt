@@ -10,13 +10,14 @@ use native.Mathlib.Omega.{arith}
 use lib.Dec.{ltb, eqb}
 use Rattle.theory.proofs.Tests.{ref-lt}
 use Rattle.theory.proofs.First.{first-same}
+use Rattle.refusals.specs.declared.fault.Fault.{Fault}
+use Rattle.refusals.specs.declared.fault.Fault.the-variants.{List, Place}
+use Rattle.refusals.specs.Faults.{orElse, faultBy, clear}
 use Rattle.heap.specs.Capacity.{cap}
 use Rattle.heap.specs.declared.Entry.{Entry}
 use Rattle.heap.specs.declared.SlotState.{SlotState}
 use Rattle.heap.specs.declared.SlotState.the-variants.{Full, Empty}
 use Rattle.heap.specs.declared.Heap.{Heap}
-use Rattle.heap.specs.declared.fault.Fault as HF
-use Rattle.heap.specs.declared.fault.Fault.the-variants as H
 use Rattle.heap.specs.Rules.{stateAt}
 use Rattle.heap.specs.Faults as Heaps
 use Rattle.heap.specs.Sound.{Sound}
@@ -28,9 +29,8 @@ use Rattle.heap.proofs.UnusedRoom.InUseTest as HeapTest
 use Rattle.state.specs.declared.Held.{Held}
 use Rattle.state.specs.declared.Held.the-variants as Held
 use Rattle.state.specs.declared.Set.{Set}
-use Rattle.state.specs.declared.fault.Fault.the-variants.{List}
 use Rattle.state.specs.State.{timerAt}
-use Rattle.state.specs.Faults.{heapFault, waitsAt, afterAt, listScan, entryHas, heldOk, lifeOk, closedOk, placeOk, entryFits, entryOk, lower, entryScan, firstPlace, placeScan, atPlace, faultBy, orElse, faultOf, isNo, soundOf}
+use Rattle.state.specs.Faults.{waitsAt, afterAt, listScan, entryHas, heldOk, lifeOk, closedOk, placeOk, entryFits, entryOk, lower, entryScan, firstPlace, placeScan, faultOf, soundOf}
 use Rattle.state.specs.InUse.{SameInUse, Twins}
 
 -- their heaps differ only there
@@ -84,32 +84,29 @@ module _ (s : Set) (g : Heap) (r : Heap.Twins g (s .heap)) where
         (first-same (placeOk (over s g)) (placeOk s) cap 0 (λ p l b. place-same p) t)
         ((ap (entryScan (over s g)) (r .same .same-len) ∙ entry-scan-same (s .heap .len) (omega arith)) t)
 
-  no-fault : Heaps.faultOf (s .heap) ≡ H.No → Sound (s .heap)
+  no-fault : Heaps.faultOf (s .heap) ≡ none → Sound (s .heap)
   unfolding Heaps.consistentOf
-  no-fault e = consistent-sound (s .heap) (r .right .entries-long) (r .right .slots-long) (ap Heaps.isNo e)
+  no-fault e = consistent-sound (s .heap) (r .right .entries-long) (r .right .slots-long) (ap clear e)
 
   -- the places are asked only where the heap has no fault
   fault-over : faultOf (over s g) ≡ faultOf s
   unfolding faultOf listScan waitsAt afterAt
   fault-over =
-      ap (λ (f : HF.Fault). orElse (heapFault f) (orElse (faultBy List (listScan s)) (faultBy atPlace (placeScan (over s g)))))
+      ap (λ (f : Option Fault). orElse f (orElse (faultBy List (listScan s)) (faultBy Place (placeScan (over s g)))))
       (HeapTest.fault-in-use g (s .heap) (r .same))
       ∙ go (Heaps.faultOf (s .heap)) refl
     where
-      go : (f : HF.Fault) → Heaps.faultOf (s .heap) ≡ f
-          → orElse (heapFault f) (orElse (faultBy List (listScan s)) (faultBy atPlace (placeScan (over s g))))
-          ≡ orElse (heapFault f) (orElse (faultBy List (listScan s)) (faultBy atPlace (placeScan s)))
-      go H.No e = ap (λ (o : Option ℕ). orElse (faultBy List (listScan s)) (faultBy atPlace o)) (places-same (no-fault e))
-      go H.Count e = refl
-      go (H.Position i) e = refl
-      go (H.Order i) e = refl
-      go (H.FreeChain k) e = refl
+      go : (f : Option Fault) → Heaps.faultOf (s .heap) ≡ f
+          → orElse f (orElse (faultBy List (listScan s)) (faultBy Place (placeScan (over s g))))
+          ≡ orElse f (orElse (faultBy List (listScan s)) (faultBy Place (placeScan s)))
+      go none e = ap (λ (o : Option ℕ). orElse (faultBy List (listScan s)) (faultBy Place o)) (places-same (no-fault e))
+      go (some f) e = refl
 
 -- the scans find the same fault
-fault-in-use : {a b : Set} → Twins a b → faultOf a ≡ faultOf b
+pub fault-in-use : {a b : Set} → Twins a b → faultOf a ≡ faultOf b
 fault-in-use r = by-heap (λ (a b : Set). faultOf a ≡ faultOf b) fault-over r
 
 -- the test says the same
 pub sound-in-use : {a b : Set} → Twins a b → soundOf a ≡ soundOf b
 unfolding soundOf
-sound-in-use r = ap isNo (fault-in-use r)
+sound-in-use r = ap clear (fault-in-use r)

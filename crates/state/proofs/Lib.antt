@@ -4,6 +4,8 @@ pub mod FaultLaws
 pub mod PlaceTest
 pub mod Parts
 pub mod Test
+pub mod FirstFault
+pub mod OneFault
 pub mod FreshSound
 pub mod Handles
 pub mod NoSecond

@@ -11,9 +11,10 @@ use Rattle.state.specs.declared.Set.{Set}
 use Rattle.state.specs.declared.Handle.{Handle}
 use Rattle.state.specs.declared.Named.{Named}
 use Rattle.state.specs.declared.Named.the-variants as N
-use Rattle.state.specs.declared.fault.Fault.{Fault}
 use Rattle.state.specs.State.{isWaiting, headAfter, freshOf}
 use Rattle.state.specs.Handles.{handleWord, namedBy, saidNamed}
+use Rattle.refusals.specs.Faults.{saidVerdict}
+use Rattle.refusals.proofs.Apart.{verdict-apart}
 use Rattle.state.specs.Faults.{faultOf, soundOf}
 use Rattle.state.specs.Promises.{Fresh, Faults, IsSound, Words, Names, Waits, Follows}
 
@@ -33,7 +34,7 @@ pub fresh-no-second : NoSecond (λ (q : Unit {0}) (r : Set). Fresh r)
 fresh-no-second = by-rule (λ (r : Set). r) (λ (q : Unit {0}). freshOf) plain-apart
 
 pub first-fault-no-second : NoSecond Faults
-first-fault-no-second = by-rule (λ (r : Fault). r) faultOf plain-apart
+first-fault-no-second = by-rule saidVerdict faultOf verdict-apart
 
 pub sound-no-second : NoSecond IsSound
 sound-no-second = by-rule (λ (r : Bool). r) soundOf plain-apart

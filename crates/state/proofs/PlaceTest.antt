@@ -28,6 +28,7 @@ use Rattle.state.specs.declared.Set.{Set}
 use Rattle.state.specs.State.{timerAt, isWaiting}
 use Rattle.state.specs.Faults.{isNothing, isSlot, entryHas, heldOk, idleIn, lifeOk, closedOk, placeOk, entryOk, lower, entryScan}
 use Rattle.state.specs.Sound.{Unused, Owns}
+use Rattle.state.specs.Named.{Goes, PlaceRight, EntryRight}
 
 -- a test tells that it is true, and its negation that it is false
 pub ref-self : (b : Bool) → Ref (b ≡ true) b
@@ -81,13 +82,6 @@ module _ (s : Set) (p : ℕ) where
   ref-held Held.Nothing = holds (λ q e. absurd (held-some e refl))
   ref-held (Held.At r) = ref-map (ref-own r) (λ o q e. let z : r ≡ q = cc in subst (Owns s p) z o) (λ f. f r refl)
 
--- how a timer's parts go with whose place it is
-abbrev pub Goes : Bool → Timer → Life → Type 0
-Goes closed t Free = Unused t
-Goes closed t (Live w d) = closed ≡ false → invalidIn w ≡ false
-Goes closed t (Cancelled w) = closed ≡ false → (invalidIn w ≡ false) × (isWaiting (t .waiting) ≡ true)
-Goes closed t Retired = Unused t
-
 ref-life : (closed : Bool) (t : Timer) (l : Life) → Ref (Goes closed t l) (lifeOk closed t l)
 ref-life c t Free = ref-idle t
 ref-life true t (Live w d) = holds (λ o. absurd (true≢false o))
@@ -101,21 +95,9 @@ ref-closed : (closed : Bool) (t : Timer) → Ref (closed ≡ true → Unused t) 
 ref-closed true t = ref-map (ref-idle t) (λ u e. u) (λ f. f refl)
 ref-closed false t = holds (λ e. absurd (false≢true e))
 
--- all that the test of a place tells
-pub record PlaceFine (s : Set) (p : ℕ) : Type 0 where
-  pub goes : Goes (s .closed) (timerAt s p) (timerAt s p .life)
-  pub idle : s .closed ≡ true → Unused (timerAt s p)
-  pub owns : (q : Slot) → timerAt s p .held ≡ Held.At q → Owns s p q
-
--- all that the test of an entry tells
-pub record EntryFine (s : Set) (i : ℕ) : Type 0 where
-  pub place : entryAt (s .heap) i .place .0 < cap
-  pub generation : entryAt (s .heap) i .generation < 2 ^ 30
-  pub own : timerAt s (entryAt (s .heap) i .place .0) .held ≡ Held.At (entryAt (s .heap) i .slot)
-
 module _ (s : Set) where
   -- the test of a place
-  pub ref-place : (p : ℕ) → Ref (PlaceFine s p) (placeOk s p)
+  pub ref-place : (p : ℕ) → Ref (PlaceRight s p) (placeOk s p)
   unfolding placeOk
   ref-place p =
       let t = timerAt s p in
@@ -124,7 +106,7 @@ module _ (s : Set) where
       (λ f. (f .goes, (f .idle, f .owns)))
 
   -- the test of an entry
-  ref-entry : (i : ℕ) → Ref (EntryFine s i) (entryOk s i)
+  pub ref-entry : (i : ℕ) → Ref (EntryRight s i) (entryOk s i)
   unfolding entryOk
   ref-entry i =
       let e = entryAt (s .heap) i in
@@ -133,13 +115,13 @@ module _ (s : Set) where
       (λ f. (f .place, (f .generation, f .own)))
 
   -- the scan over the entries finds none exactly where all pass
-  pub ref-entries : (n : ℕ) → Ref ((i : ℕ) → i < n → EntryFine s i) (noFault (entryScan s n))
+  pub ref-entries : (n : ℕ) → Ref ((i : ℕ) → i < n → EntryRight s i) (noFault (entryScan s n))
   unfolding entryScan
   ref-entries zero = holds (λ i l. absurd (omega arith))
   ref-entries (suc n) =
-      subst (Ref ((i : ℕ) → i < suc n → EntryFine s i)) (go (entryScan s n) (entryOk s n))
+      subst (Ref ((i : ℕ) → i < suc n → EntryRight s i)) (go (entryScan s n) (entryOk s n))
       (ref-map (ref-and (ref-entries n) (ref-entry n))
-      (λ r i l. split i n (λ e. subst (EntryFine s) (sym e) (r .1)) (λ d. r .0 i (omega arith)))
+      (λ r i l. split i n (λ e. subst (EntryRight s) (sym e) (r .1)) (λ d. r .0 i (omega arith)))
       (λ f. ((λ i l. f i (omega arith)), f n (omega arith))))
     where
       go : (o : Option ℕ) (b : Bool) → (noFault o && b) ≡ noFault (lower o (cond b none (some (entryAt (s .heap) n .place .0))))

@@ -26,7 +26,8 @@ use Rattle.state.specs.declared.Set.{Set}
 use Rattle.state.specs.State.{timerAt, isWaiting, headOf}
 use Rattle.state.specs.Faults.{waitsAt, afterAt, soundOf}
 use Rattle.state.specs.Sound.{Sound}
-use Rattle.state.proofs.PlaceTest.{ref-still, held-some, Goes}
+use Rattle.state.specs.Named.{Goes}
+use Rattle.state.proofs.PlaceTest.{ref-still, held-some}
 use Rattle.state.proofs.Parts.{listTest, Passed, ref-passed}
 
 -- a place that waits is a place of the set, and is marked so

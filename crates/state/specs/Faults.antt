@@ -7,13 +7,14 @@ use Prim.Native.Nat.{ℕ, zero, suc, _^_, min}
 use lib.Dec.{ltb, eqb}
 use Rattle.theory.specs.First.{firstBad}
 use Rattle.theory.specs.WrongStep.{wrongStep}
+use Rattle.refusals.specs.declared.fault.Fault.{Fault}
+use Rattle.refusals.specs.declared.fault.Fault.the-variants.{List, Place}
+use Rattle.refusals.specs.Faults.{orElse, faultBy, clear}
 use Rattle.heap.specs.Capacity.{cap}
 use Rattle.heap.specs.declared.Heap.{Heap}
 use Rattle.heap.specs.declared.Entry.{Entry}
 use Rattle.heap.specs.declared.SlotState.{SlotState}
 use Rattle.heap.specs.declared.SlotState.the-variants.{Full, Empty}
-use Rattle.heap.specs.declared.fault.Fault as HF
-use Rattle.heap.specs.declared.fault.Fault.the-variants as H
 use Rattle.heap.specs.Rules.{entryAt, stateAt}
 use Rattle.heap.specs.Faults as Heaps
 use Rattle.word.specs.Rules.{invalidIn}
@@ -23,21 +24,11 @@ use Rattle.state.specs.declared.Held.{Held}
 use Rattle.state.specs.declared.Held.the-variants as Held
 use Rattle.state.specs.declared.Timer.{Timer}
 use Rattle.state.specs.declared.Set.{Set}
-use Rattle.state.specs.declared.fault.Fault.{Fault}
-use Rattle.state.specs.declared.fault.Fault.the-variants as F
 use Rattle.state.specs.declared.fault.Walk.{Walk}
 use Rattle.state.specs.declared.fault.Walk.the-variants as W
 use Rattle.state.specs.declared.fault.Scan.{Scan}
 use Rattle.state.specs.declared.fault.Scan.the-variants as S
 use Rattle.state.specs.State.{timerAt, isWaiting, nextIn, headOf}
-
--- the heap's fault as the set's
-abbrev pub heapFault : HF.Fault → Fault
-heapFault H.No = F.No
-heapFault H.Count = F.Count
-heapFault (H.Position i) = F.Position i
-heapFault (H.Order i) = F.Order i
-heapFault (H.FreeChain k) = F.FreeChain k
 
 -- the waiting timers, and the links among them
 unfoldable pub waitsAt : Set → ℕ → Bool
@@ -127,36 +118,10 @@ abbrev pub scanned : Scan → Option ℕ
 scanned S.Fine = none
 scanned (S.At p) = some (p .0)
 
--- the fault at a place
-abbrev pub atPlace : ℕ → Fault
-atPlace p = F.Place (record { 0 = p })
-
-abbrev pub faultBy : (ℕ → Fault) → Option ℕ → Fault
-faultBy kind none = F.No
-faultBy kind (some k) = kind k
-
--- the first of two faults
-abbrev pub orElse : Fault → Fault → Fault
-orElse F.No g = g
-orElse F.Count g = F.Count
-orElse (F.Position i) g = F.Position i
-orElse (F.Order i) g = F.Order i
-orElse (F.FreeChain k) g = F.FreeChain k
-orElse (F.List k) g = F.List k
-orElse (F.Place p) g = F.Place p
-
-unfoldable pub faultOf : Set → Fault
-faultOf s = orElse (heapFault (Heaps.faultOf (s .heap))) (orElse (faultBy F.List (listScan s)) (faultBy atPlace (placeScan s)))
-
-abbrev pub isNo : Fault → Bool
-isNo F.No = true
-isNo F.Count = false
-isNo (F.Position i) = false
-isNo (F.Order i) = false
-isNo (F.FreeChain k) = false
-isNo (F.List k) = false
-isNo (F.Place p) = false
+-- the first fault of all: the heap's, then that of the list, then that of the places
+unfoldable pub faultOf : Set → Option Fault
+faultOf s = orElse (Heaps.faultOf (s .heap)) (orElse (faultBy List (listScan s)) (faultBy Place (placeScan s)))
 
 -- the test of soundness, yes or no
 unfoldable pub soundOf : Set → Bool
-soundOf s = isNo (faultOf s)
+soundOf s = clear (faultOf s)

@@ -4,3 +4,4 @@ pub mod Faults
 pub mod Sound
 pub mod Promises
 pub mod InUse
+pub mod Named

@@ -8,7 +8,8 @@ use Rattle.state.specs.declared.First.{First}
 use Rattle.state.specs.declared.Set.{Set}
 use Rattle.state.specs.declared.Handle.{Handle}
 use Rattle.state.specs.declared.Named.{Named}
-use Rattle.state.specs.declared.fault.Fault.{Fault}
+use Rattle.refusals.specs.declared.fault.Verdict.{Verdict}
+use Rattle.refusals.specs.Faults.{saidVerdict}
 use Rattle.state.specs.State.{isWaiting, headAfter, freshOf}
 use Rattle.state.specs.Handles.{handleWord, namedBy, saidNamed}
 use Rattle.state.specs.Faults.{faultOf, soundOf}
@@ -16,8 +17,8 @@ use Rattle.state.specs.Faults.{faultOf, soundOf}
 abbrev pub Fresh : Set → Type 0
 Fresh r = r ≡ freshOf
 
-abbrev pub Faults : Set → Fault → Type 0
-Faults s r = r ≡ faultOf s
+abbrev pub Faults : Set → Verdict → Type 0
+Faults s r = saidVerdict r ≡ faultOf s
 
 abbrev pub IsSound : Set → Bool → Type 0
 IsSound s r = r ≡ soundOf s

@@ -8,31 +8,19 @@ use crate::Timer;
 use crate::Waiting;
 use heap::Entry;
 use heap::Place;
-use heap::Pos;
 use heap::SlotState;
+use refusals::fault::Fault;
+use refusals::fault::Verdict;
 ghost use mathlib.Core.Path.{_≡_};
 ghost use mathlib.Core.Bool.{_&&_};
 ghost use Rattle.theory.specs.Counting.{count};
 ghost use Rattle.heap.specs.Capacity.{cap};
 ghost use Rattle.heap.specs.Sound as HeapSound;
-ghost use Rattle.state.specs.Faults.{heapFault, waitsAt, listScan, lower as lowerOf, idleIn, lifeOk, closedOk, entryFits, firstPlace, entryScan, walked, scanned};
+ghost use Rattle.state.specs.Faults.{waitsAt, listScan, lower as lowerOf, idleIn, lifeOk, closedOk, entryFits, firstPlace, entryScan, walked, scanned};
 ghost use Rattle.state.specs.Promises.{Faults, Waits, Follows};
 
 // How many generations there are: 2^30.
 const GENERATIONS: u32 = 1_073_741_824;
-
-// What is wrong with a set, and where. The first four are the heap's.
-pub enum Fault {
-    No,
-    Count,
-    Position(Pos),
-    Order(Pos),
-    FreeChain(usize),
-    // the step along the waiting list at which it goes wrong
-    List(usize),
-    // the lowest place at fault; that of a heap entry is the place that it holds, however large
-    Place(Place),
-}
 
 // What the walk along the waiting list finds: the step at which it goes wrong.
 pub enum Walk {
@@ -47,34 +35,21 @@ pub enum Scan {
 }
 
 // The first fault of a set, in the order of the kinds.
-pub fn first_fault(s: Set) -> Fault
+pub fn first_fault(s: Set) -> Verdict
     ensures { λ r. ⌜ Faults s r ⌝ }
 {
     let h = s.heap;
     let f = heap::fault::first_fault(h);
-    let heap::fault::Fault::No = f else {
-        return of_heap(f);
+    let Verdict::Sound = f else {
+        return f;
     };
     let n = waiting_count(s);
     if let Walk::At(k) = list_scan(s, n) {
-        return Fault::List(k);
+        return Verdict::Broken(Fault::List(k as u64));
     }
     match lower(place_scan(s), entry_scan(s)) {
-        Scan::Fine => Fault::No,
-        Scan::At(p) => Fault::Place(p),
-    }
-}
-
-// A heap's fault as the set's.
-fn of_heap(f: heap::fault::Fault) -> Fault
-    ensures { λ r. ⌜ r ≡ heapFault f ⌝ }
-{
-    match f {
-        heap::fault::Fault::No => Fault::No,
-        heap::fault::Fault::Count => Fault::Count,
-        heap::fault::Fault::Position(i) => Fault::Position(i),
-        heap::fault::Fault::Order(i) => Fault::Order(i),
-        heap::fault::Fault::FreeChain(k) => Fault::FreeChain(k),
+        Scan::Fine => Verdict::Sound,
+        Scan::At(p) => Verdict::Broken(Fault::Place(p.0 as u64)),
     }
 }
 

@@ -8,6 +8,7 @@ pub mod fault;
 use heap::Heap;
 use heap::Place;
 use heap::Slot;
+use refusals::fault::Verdict;
 ghost use Rattle.state.specs.Promises.{Fresh, IsSound, Words, Names};
 
 // Whose place it is.
@@ -91,11 +92,7 @@ pub fn sound(s: Set) -> bool
     ensures { λ r. ⌜ IsSound s r ⌝ }
 {
     let f = fault::first_fault(s);
-    if let fault::Fault::No = f {
-        true
-    } else {
-        false
-    }
+    if let Verdict::Sound = f { true } else { false }
 }
 
 // A handle as one word: the use number in the upper 32 bits, then 16 zero bits, then the place.

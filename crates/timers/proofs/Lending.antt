@@ -8,8 +8,7 @@ use lib.ListN.{length}
 use borrow.Author.Tests.{le-leb, lt-leb}
 use Rattle.refusals.specs.declared.Refusal.{Refusal}
 use Rattle.refusals.specs.declared.Refusal.the-variants.{ShortList}
-use Rattle.refusals.specs.Numbers.{numberOf}
-use Rattle.refusals.specs.Answer.{Outcome, refused}
+use Rattle.refusals.specs.Answer.{Outcome, refuse}
 use Rattle.heap.specs.Capacity.{cap}
 use Rattle.state.specs.declared.Set.{Set}
 use Rattle.state.specs.Faults.{soundOf}
@@ -19,7 +18,7 @@ use Rattle.timers.proofs.Guarding.{stopped-both, through-both}
 
 module _ (s : Set) (l : List ℕ) (o : Outcome Lent Value) where
   -- a call turned away hands back the set, with the list as it was
-  pub turned-away : (why : Refusal) (r : After) → refused (numberOf why) ≡ openOf s → told r ≡ refusing s why
+  pub turned-away : (why : Refusal) (r : After) → refuse why ≡ openOf s → told r ≡ refusing s why
       → toldWith r l ≡ guarded s (lent s l) (opened s (lent s l) (roomy s l o))
   turned-away why r e h = ap (λ (x : Outcome Set Value). with-list l x) h ∙ sym (stopped-both s why e (lent s l) _)
 

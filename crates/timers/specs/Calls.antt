@@ -6,10 +6,10 @@ use mathlib.Core.List.{List, [], _∷_}
 use Prim.Native.Nat.{ℕ}
 use lib.Dec.{ltb, leb, eqb}
 use lib.ListN.{length}
+use Rattle.refusals.specs.declared.fault.Fault.{Fault}
 use Rattle.refusals.specs.declared.Refusal.{Refusal}
 use Rattle.refusals.specs.declared.Refusal.the-variants.{Unsound, Closed, DeadHandle, Full, ShortList, NotFired}
-use Rattle.refusals.specs.Numbers.{numberOf}
-use Rattle.refusals.specs.Answer.{Answer, accepted, refused, refuse, Outcome, Nothing, kept}
+use Rattle.refusals.specs.Answer.{Answer, accepted, refused, unsound, refuse, Outcome, Nothing, kept}
 use Rattle.heap.specs.Capacity.{cap}
 use Rattle.heap.specs.declared.Entry.{Entry}
 use Rattle.heap.specs.Calls.{peekSound}
@@ -21,7 +21,7 @@ use Rattle.state.specs.declared.Life.the-variants as Life
 use Rattle.state.specs.declared.Set.{Set}
 use Rattle.state.specs.declared.Handle.{Handle}
 use Rattle.state.specs.State.{timerAt}
-use Rattle.state.specs.Faults.{soundOf}
+use Rattle.state.specs.Faults.{faultOf}
 pub use Rattle.timers.specs.Values.{Value, nothing, handle, counts, wake, polled, time}
 use Rattle.timers.specs.declared.Call.{Call}
 use Rattle.timers.specs.declared.Call.the-variants as C
@@ -43,11 +43,15 @@ abbrev pub gives : {S : Type 0} → S → Value → Outcome S Value
 gives s v = record { state = s; answer = accepted v }
 
 abbrev pub refusing : {S : Type 0} → S → Refusal → Outcome S Value
-refusing s r = kept s (numberOf r)
+refusing s r = kept s (refuse r)
 
--- a call begins with the test of soundness: an unsound set is refused with 1
+-- a call begins with the test of soundness: an unsound set is refused with 1 and its first fault
+abbrev pub judged : {A : Type 0} → Option Fault → A → (Fault → A) → A
+judged none o f = o
+judged (some x) o f = f x
+
 unfoldable pub guarded : {S : Type 0} → Set → S → Outcome S Value → Outcome S Value
-guarded s k o = cond (soundOf s) o (refusing k Unsound)
+guarded s k o = judged (faultOf s) o (λ x. refusing k (Unsound x))
 
 -- then a closed set is refused with 2
 abbrev pub opened : {S : Type 0} → Set → S → Outcome S Value → Outcome S Value
@@ -55,10 +59,10 @@ opened s k o = cond (s .closed) (refusing k Closed) o
 
 -- what the two tests say to a call
 unfoldable pub guardOf : Set → Answer Nothing
-guardOf s = cond (soundOf s) (accepted tt) (refuse Unsound)
+guardOf s = judged (faultOf s) (accepted tt) (λ x. refuse (Unsound x))
 
 unfoldable pub openOf : Set → Answer Nothing
-openOf s = cond (soundOf s) (cond (s .closed) (refuse Closed) (accepted tt)) (refuse Unsound)
+openOf s = judged (faultOf s) (cond (s .closed) (refuse Closed) (accepted tt)) (λ x. refuse (Unsound x))
 
 -- the word and the deadline of a live timer
 pub record Timing : Type 0 where
@@ -88,7 +92,7 @@ living (some t) = accepted t
 -- what the door says to a call on a handle: an unsound set is refused with 1, a barred one with 2, a dead handle with 3. A set is
 -- barred where it is closed; to a call that a closed set answers too it never is
 unfoldable pub doorOf : Bool → Set → Handle → Answer Timing
-doorOf barred s h = cond (soundOf s) (cond barred (refuse Closed) (living (liveAt s h))) (refuse Unsound)
+doorOf barred s h = judged (faultOf s) (cond barred (refuse Closed) (living (liveAt s h))) (λ x. refuse (Unsound x))
 
 -- ADD: the lowest free place, word 0, the deadline, pushed on the list; refused with 4 where no place is free
 abbrev pub addedAt : Set → ℕ → Option ℕ → Outcome Set Value
@@ -137,6 +141,7 @@ abbrev pub wakeBy : Answer (Option Entry) → Option ℕ
 wakeBy (accepted none) = none
 wakeBy (accepted (some e)) = some (e .at)
 wakeBy (refused n) = none
+wakeBy (unsound x) = none
 
 unfoldable pub nextWakeOf : Set → Outcome Set Value
 nextWakeOf s = guarded s s (gives s (wake (wakeBy (peekSound (s .heap)))))
@@ -145,6 +150,7 @@ nextWakeOf s = guarded s s (gives s (wake (wakeBy (peekSound (s .heap)))))
 abbrev pub pollBy : Answer ℕ → ℕ
 pollBy (accepted n) = n
 pollBy (refused n) = n
+pollBy (unsound x) = 0
 
 unfoldable pub pollOf : Set → Handle → Outcome Set Value
 pollOf s h = guarded s s (alive s (liveAt s h) (λ t. gives s (polled (pollBy (Word.pollOf (t .word))))))
@@ -157,7 +163,8 @@ closeOf s = guarded s s (opened s s (gives (closedOf s) nothing))
 -- makes a reset to the next one
 abbrev pub tickedBy : Set → Handle → Timing → Answer ℕ → Outcome Set Value
 tickedBy s h t (accepted d) = gives (resetTo s h d t) (time (t .due))
-tickedBy s h t (refused n) = kept s n
+tickedBy s h t (refused n) = kept s (refused n)
+tickedBy s h t (unsound x) = kept s (unsound x)
 
 abbrev pub ticked : Set → Handle → Policy → ℕ → ℕ → Timing → Outcome Set Value
 ticked s h p period N t = cond (Word.firedIn (t .word)) (tickedBy s h t (tickOf p (t .due) period N)) (refusing s NotFired)
@@ -168,7 +175,8 @@ tickAt s h p period N = guarded s s (opened s s (alive s (liveAt s h) (ticked s 
 -- INTERVAL RESET: a reset to N + period, fired or not
 abbrev pub restartedBy : Set → Handle → Timing → Answer ℕ → Outcome Set Value
 restartedBy s h t (accepted d) = gives (resetTo s h d t) nothing
-restartedBy s h t (refused n) = kept s n
+restartedBy s h t (refused n) = kept s (refused n)
+restartedBy s h t (unsound x) = kept s (unsound x)
 
 unfoldable pub restartAt : Set → Handle → ℕ → ℕ → Outcome Set Value
 restartAt s h period N = guarded s s (opened s s (alive s (liveAt s h) (λ t. restartedBy s h t (restartOf period N))))
@@ -198,10 +206,10 @@ after (c ∷ cs) s = after cs (step s (c .0) (c .1) .state .set)
 -- what the code's guards, doors and replies say
 abbrev pub saidGuard : Guard → Answer Nothing
 saidGuard G.Open = accepted tt
-saidGuard (G.Refused r) = refused (numberOf r)
+saidGuard (G.Refused r) = refuse r
 
 abbrev pub saidDoor : Door → Answer Timing
-saidDoor (D.Refused r) = refused (numberOf r)
+saidDoor (D.Refused r) = refuse r
 saidDoor (D.Live w d) = accepted (record { word = w; due = d })
 
 abbrev pub said : Reply → Answer Value
@@ -212,7 +220,7 @@ said (R.WakeAt t) = accepted (wake (some t))
 said R.NoWake = accepted (wake none)
 said (R.Found p) = accepted (polled (pollBy (Word.said p)))
 said (R.Ticked t) = accepted (time t)
-said (R.Refused r) = refused (numberOf r)
+said (R.Refused r) = refuse r
 
 -- the set handed back, and what is said; with the lent list as it is then
 abbrev pub told : After → Outcome Set Value

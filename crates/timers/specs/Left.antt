@@ -9,8 +9,7 @@ use lib.IntN.{ℤ, pos, _-ℤ_}
 use lib.Signed.{ltZ}
 use Rattle.theory.specs.Least.{through, lesser, leastBelow}
 use Rattle.refusals.specs.declared.Refusal.the-variants.{Unsound, Closed}
-use Rattle.refusals.specs.Numbers.{numberOf}
-use Rattle.refusals.specs.Answer.{Answer, accepted, refused, refuse}
+use Rattle.refusals.specs.Answer.{Answer, accepted, refused, unsound, refuse}
 use Rattle.refusals.specs.Times.{signed, differenceOf}
 use Rattle.heap.specs.Capacity.{cap}
 use Rattle.word.specs.Rules.{firedIn}
@@ -19,12 +18,12 @@ use Rattle.state.specs.declared.Life.the-variants.{Free, Live, Cancelled, Retir
 use Rattle.state.specs.declared.Set.{Set}
 use Rattle.state.specs.declared.Handle.{Handle}
 use Rattle.state.specs.State.{timerAt}
-use Rattle.state.specs.Faults.{soundOf}
+use Rattle.state.specs.Faults.{faultOf}
 use Rattle.timers.specs.declared.left.Least.{Least}
 use Rattle.timers.specs.declared.left.Least.the-variants as L
 use Rattle.timers.specs.declared.left.Earliest.{Earliest}
 use Rattle.timers.specs.declared.left.Earliest.the-variants as S
-use Rattle.timers.specs.Calls.{Timing, doorOf}
+use Rattle.timers.specs.Calls.{judged, Timing, doorOf}
 
 -- TIME LEFT: the deadline that a live timer has, fired or not, minus the reading: zero at the deadline, below zero once it is
 -- overdue. Refused with 1, 2 and 3 as at the door of every call on a handle, then with 6 where the number is no signed one of 64
@@ -32,6 +31,7 @@ use Rattle.timers.specs.Calls.{Timing, doorOf}
 abbrev pub timeLeftBy : ℕ → Answer Timing → Answer ℤ
 timeLeftBy N (accepted t) = differenceOf (t .due) N
 timeLeftBy N (refused n) = refused n
+timeLeftBy N (unsound x) = unsound x
 
 unfoldable pub timeLeftOf : Set → Handle → ℕ → Answer ℤ
 timeLeftOf s h N = timeLeftBy N (doorOf (s .closed) s h)
@@ -55,6 +55,7 @@ leftAt N d = pos d -ℤ pos N
 abbrev pub orNone : Answer ℤ → Answer (Option ℤ)
 orNone (accepted z) = accepted (some z)
 orNone (refused n) = refused n
+orNone (unsound x) = unsound x
 
 abbrev pub leastBy : Option ℤ → Answer (Option ℤ)
 leastBy none = accepted none
@@ -62,15 +63,15 @@ leastBy (some z) = orNone (signed z)
 
 unfoldable pub leastLeftOf : Set → ℕ → Answer (Option ℤ)
 leastLeftOf s N =
-    cond (soundOf s)
+    judged (faultOf s)
     (cond (s .closed) (refuse Closed) (leastBy (leastBelow ltZ (λ p. through (leftAt N) (pendingAt s p)) cap)))
-    (refuse Unsound)
+    (λ x. refuse (Unsound x))
 
 -- what the code's answer says
 abbrev pub saidLeast : Least → Answer (Option ℤ)
 saidLeast L.Nothing = accepted none
 saidLeast (L.Nanos z) = accepted (some z)
-saidLeast (L.Refused r) = refused (numberOf r)
+saidLeast (L.Refused r) = refuse r
 
 -- and the functions inside: the earliest such deadline, which the code looks for
 abbrev pub lesserDue : Option ℕ → Option ℕ → Option ℕ

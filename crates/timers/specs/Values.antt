@@ -2,7 +2,7 @@
 -- Assumes nothing.
 use mathlib.Core.Option.{Option, none, some}
 use Prim.Native.Nat.{ℕ}
-use Rattle.refusals.specs.Answer.{Answer, accepted, refused}
+use Rattle.refusals.specs.Answer.{Answer, accepted, refused, unsound}
 use Rattle.state.specs.declared.Handle.{Handle}
 
 pub data Value : Type 0 where
@@ -28,6 +28,7 @@ handleIn (accepted (wake t)) = none
 handleIn (accepted (polled n)) = none
 handleIn (accepted (time t)) = none
 handleIn (refused n) = none
+handleIn (unsound x) = none
 
 -- how many reports an answer says were written
 abbrev pub reportsIn : Answer Value → ℕ
@@ -38,3 +39,4 @@ reportsIn (accepted (wake t)) = 0
 reportsIn (accepted (polled n)) = 0
 reportsIn (accepted (time t)) = 0
 reportsIn (refused n) = 0
+reportsIn (unsound x) = 0

@@ -6,6 +6,7 @@ pub mod left;
 
 use interval::Policy;
 use refusals::Refusal;
+use refusals::fault::Verdict;
 use refusals::time::Time;
 use state::Handle;
 use state::Life;
@@ -92,10 +93,9 @@ pub enum Door {
 fn guarded(s: Set) -> Guard
     ensures { λ r. ⌜ Guards s r ⌝ }
 {
-    if state::sound(s) {
-        Guard::Open
-    } else {
-        Guard::Refused(Refusal::Unsound)
+    match state::fault::first_fault(s) {
+        Verdict::Sound => Guard::Open,
+        Verdict::Broken(f) => Guard::Refused(Refusal::Unsound(f)),
     }
 }
 

@@ -5,7 +5,7 @@ use mathlib.Core.Bool.{Bool}
 use Prim.Native.Nat.{ℕ, zero, suc}
 use Rattle.theory.specs.Promise.{NoSecond, TellsApart}
 use Rattle.theory.proofs.Promise.{by-rule, plain-apart, undone-apart}
-use Rattle.refusals.specs.Answer.{Answer, accepted, refused}
+use Rattle.refusals.specs.Answer.{Answer, accepted, refused, unsound}
 use Rattle.word.specs.declared.Polled.{Polled}
 use Rattle.word.specs.declared.Polled.the-variants.{Pending, Fired, Gone}
 use Rattle.word.specs.Rules.{generationOf, firedIn, invalidIn, firedOf, invalidOf, resetOf, matchesIn, pollOf, said}
@@ -17,6 +17,7 @@ polledOf (accepted zero) = Pending
 polledOf (accepted (suc zero)) = Fired
 polledOf (accepted (suc (suc n))) = Gone
 polledOf (refused n) = Gone
+polledOf (unsound f) = Gone
 
 -- the number tells any two cases of a poll apart
 pub said-apart : TellsApart said

@@ -2,6 +2,7 @@
 -- Assumes nothing.
 use mathlib.Core.Path.{sym, _∙_}
 use borrow.Author.Needs.{needs}
+use Rattle.clock.proofs.Passing.{as-refused}
 use Rattle.clock.proofs.pause.Statement.{statement}
 use Rattle.clock.proofs.pause.Tie as tie
 
@@ -12,7 +13,7 @@ returns-2 : tie.Need-returns-2
 returns-2 c = rw (sym (c .before .before .before .before .before .is-paused .ensures) ∙ c .before .before .before .before .if1 .left, ← (rw (c .before .time .given .1) at (c .before .before .before .reading .ensures)))
 
 returns-3 : tie.Need-returns-3
-returns-3 c = rw (sym (c .before .before .before .before .before .before .is-paused .ensures) ∙ c .before .before .before .before .before .if1 .left, ← (rw (c .before .before .why .given .1) at (c .before .before .before .before .reading .ensures))) (c .refused2 .ensures)
+returns-3 c = rw (sym (c .before .before .before .before .before .before .is-paused .ensures) ∙ c .before .before .before .before .before .if1 .left, ← (rw (c .before .before .why .given .1) at (c .before .before .before .before .reading .ensures))) (c .refused2 .ensures ∙ sym (as-refused _ (c .before .before .why .given .0 .0)))
 
 pub pause-spec : {M : Type 1} → statement M
 pause-spec =

@@ -12,7 +12,7 @@ use Rattle.theory.proofs.Order.{split}
 use Rattle.theory.proofs.Tests.{ref-lt, ref-eq, cond-ref}
 use Rattle.theory.proofs.Logarithm.{log2-pow}
 use Rattle.theory.proofs.Swaps.{push-log, remove-log}
-use Rattle.refusals.specs.Answer.{Answer, accepted, refused, Outcome}
+use Rattle.refusals.specs.Answer.{Answer, accepted, refused, unsound, Outcome}
 use Rattle.heap.specs.Capacity.{cap}
 use Rattle.heap.specs.declared.Slot.{Slot}
 use Rattle.heap.specs.declared.Entry.{Entry}
@@ -56,11 +56,13 @@ abbrev swapsIn : Answer Off → ℕ
 swapsIn (accepted (some v)) = v .1
 swapsIn (accepted none) = 0
 swapsIn (refused n) = 0
+swapsIn (unsound f) = 0
 
 -- and of a push
 abbrev swapsOf : Answer (Slot × ℕ) → ℕ
 swapsOf (accepted v) = v .1
 swapsOf (refused n) = 0
+swapsOf (unsound f) = 0
 
 -- push onto n entries: at most the height of n + 1
 pub push-answers : (h : Heap) → Sound h → (at g : ℕ) (place : Place) (s : Slot) (n : ℕ) → pushSound h at g place .answer ≡ accepted (s, n)

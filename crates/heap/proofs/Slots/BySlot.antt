@@ -11,8 +11,7 @@ use lib.Dec.{ltb}
 use borrow.Author.Tests.{lt-ltb, le-ltb, ltb-true}
 use Rattle.theory.proofs.Tests.{by-ref, ref-eq, ref-lt, is-false}
 use Rattle.refusals.specs.declared.Refusal.the-variants.{VacantSlot}
-use Rattle.refusals.specs.Numbers.{numberOf}
-use Rattle.refusals.specs.Answer.{accepted, kept}
+use Rattle.refusals.specs.Answer.{refuse, accepted, kept}
 use Rattle.heap.specs.Capacity.{cap}
 use Rattle.heap.specs.declared.Slot.{Slot}
 use Rattle.heap.specs.declared.Pos.{Pos}
@@ -133,12 +132,12 @@ module _ (h : Heap) (s : Slab h) (b : 0 < h .len) where
   pop-other k n = rw (pop-head h s b) (remove-other h s (entryAt h 0 .slot) (record { 0 = 0 }) (s .forth 0 b .0) (s .forth 0 b .1) k n)
 
 -- a slot in which nothing stands is refused
-pub remove-vacant : (h : Heap) (t : Slot) → lookup h (t .0) ≡ none → removeSound h t ≡ kept h (numberOf VacantSlot)
+pub remove-vacant : (h : Heap) (t : Slot) → lookup h (t .0) ≡ none → removeSound h t ≡ kept h (refuse VacantSlot)
 unfolding lookup removeSound
 remove-vacant h t = go (ltb (t .0) (h .made)) (stateAt h (t .0))
   where
     go : (b : Bool) (x : SlotState) → cond b (standing h x) none ≡ none
-        → cond b (removeBy h t x) (kept h (numberOf VacantSlot)) ≡ kept h (numberOf VacantSlot)
+        → cond b (removeBy h t x) (kept h (refuse VacantSlot)) ≡ kept h (refuse VacantSlot)
     go true (Full p) e = let z : _≡_ {A = ℕ} 0 1 = cc in absurd (omega arith)
     go true (Empty n) e = refl
     go false x e = refl

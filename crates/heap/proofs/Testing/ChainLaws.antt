@@ -16,14 +16,15 @@ use Rattle.theory.specs.Counting.{count}
 use Rattle.theory.specs.Chain.{unless}
 use Rattle.theory.specs.WrongStep.{wrongStep}
 use Rattle.theory.proofs.WrongTurns.{Walking, walk-starts, walk-short, walk-stranger, walk-again, walk-goes, walk-ends, walk-long}
+use Rattle.refusals.specs.declared.fault.Fault.the-variants.{FreeChain}
+use Rattle.refusals.specs.Faults.{faultBy}
 use Rattle.heap.specs.Capacity.{cap}
 use Rattle.heap.specs.declared.Pos.{Pos}
 use Rattle.heap.specs.declared.Slot.{Slot}
 use Rattle.heap.specs.declared.SlotState.the-variants.{Full, Empty}
 use Rattle.heap.specs.declared.Heap.{Heap}
-use Rattle.heap.specs.declared.fault.Fault.the-variants.{No, FreeChain}
 use Rattle.heap.specs.Rules.{stateAt}
-use Rattle.heap.specs.Faults.{linkOf, emptyAt, nextAt, faultBy, chainFault}
+use Rattle.heap.specs.Faults.{linkOf, emptyAt, nextAt, chainFault}
 use Rattle.heap.specs.Sound.{Counted}
 use Rattle.heap.proofs.Slots.Slab.{full-at}
 use Rattle.heap.proofs.Soundness.SoundFacts.{empty-not, empty-full, empty-made}
@@ -53,24 +54,24 @@ module _ (h : Heap) where
     ended e = rw (eq-eqb at (h .made) e) at (w .walk)
 
     -- the fault is at this step where the chain goes wrong there
-    wrong : wrongStep (emptyAt h) (nextAt h) (h .made) (unless (h .made) (h .free .0)) ≡ some k → FreeChain k ≡ chainFault h
+    wrong : wrongStep (emptyAt h) (nextAt h) (h .made) (unless (h .made) (h .free .0)) ≡ some k → some (FreeChain k) ≡ chainFault h
     unfolding chainFault
     wrong e = sym (ap (faultBy FreeChain) e)
 
     -- a slot that was not made is the fault, and so is an end too soon
-    pub chain-past : k < n → h .made ≤ at → FreeChain k ≡ chainFault h
+    pub chain-past : k < n → h .made ≤ at → some (FreeChain k) ≡ chainFault h
     chain-past l g = go (ℕ-discrete at (h .made))
       where
-        go : Dec (at ≡ h .made) → FreeChain k ≡ chainFault h
+        go : Dec (at ≡ h .made) → some (FreeChain k) ≡ chainFault h
         go (yes e) = wrong (walk-short (emptyAt h) (nextAt h) (h .made) _ (ended e) (omega (arith, w .many)))
         go (no e) = wrong (walk-stranger (emptyAt h) (nextAt h) (h .made) _ (stands e) (empty-past h at g))
 
     -- a slot that was met before is the fault
-    pub chain-again : at < h .made → getD met at false ≡ true → FreeChain k ≡ chainFault h
+    pub chain-again : at < h .made → getD met at false ≡ true → some (FreeChain k) ≡ chainFault h
     chain-again g m = wrong (walk-again (emptyAt h) (nextAt h) (h .made) _ (stands (λ e. omega arith)) g m)
 
     -- a slot that is full is the fault
-    pub chain-full : {p : Pos} → at < h .made → stateAt h at ≡ Full p → FreeChain k ≡ chainFault h
+    pub chain-full : {p : Pos} → at < h .made → stateAt h at ≡ Full p → some (FreeChain k) ≡ chainFault h
     chain-full {p} g e =
         wrong (walk-stranger (emptyAt h) (nextAt h) (h .made) _ (stands (λ e. omega arith)) (empty-not h at g ∙ ap not (full-at h at p e)))
 
@@ -89,12 +90,12 @@ module _ (h : Heap) where
     }
 
     -- with every empty slot met, there is no fault where the chain has ended
-    pub chain-ends : n ≤ k → at ≡ h .made → No ≡ chainFault h
+    pub chain-ends : n ≤ k → at ≡ h .made → none ≡ chainFault h
     unfolding chainFault
     chain-ends l e =
         sym (ap (faultBy FreeChain) (walk-ends (emptyAt h) (nextAt h) (h .made) _ (omega (arith, w .many, w .walk .within)) (ended e)))
 
     -- and one where it goes on
-    pub chain-long : n ≤ k → at ≢ h .made → FreeChain k ≡ chainFault h
+    pub chain-long : n ≤ k → at ≢ h .made → some (FreeChain k) ≡ chainFault h
     chain-long l d =
         wrong (walk-long (emptyAt h) (nextAt h) (h .made) _ (omega (arith, w .many, w .walk .within)) (empty-made h) (stands d))

@@ -1,53 +1,26 @@
--- The heap test's rules, turn by turn: the first fault of several, and what one turn of a scan over positions or slots makes of
--- its rule.
+-- The heap test's rules, turn by turn: what one turn of a scan over positions or slots makes of its rule.
 -- Assumes nothing.
-use mathlib.Core.Path.{_≡_, refl, sym, ap, _∙_}
-use mathlib.Core.Logic.{_≢_, ⊎-elim}
-use mathlib.Core.Bool.{Bool, true, false, not, true≢false}
-use mathlib.Core.List.{[], _∷_}
+use mathlib.Core.Path.{_≡_, sym, ap, _∙_}
+use mathlib.Core.Logic.{_≢_}
+use mathlib.Core.Bool.{Bool, true, false, not}
+use mathlib.Core.Option.{Option, none, some}
 use Prim.Native.Nat.{ℕ, _+_, _-_, _<_, _≤_}
 use native.Mathlib.Omega.{arith}
-use denote.Enum.Declared.{tagOf}
-use types.Run.{OneOf}
 use borrow.Author.Tests.{lt-ltb, le-ltb, eq-eqb, ne-eqb}
 use Rattle.theory.specs.First.{firstBad}
 use Rattle.theory.specs.Order.{parent}
 use Rattle.theory.proofs.First.{first-goes, first-here, first-done}
+use Rattle.refusals.specs.declared.fault.Fault.{Fault}
+use Rattle.refusals.specs.Faults.{faultBy}
 use Rattle.heap.specs.declared.Pos.{Pos}
 use Rattle.heap.specs.declared.Slot.{Slot}
 use Rattle.heap.specs.declared.SlotState.the-variants.{Full, Empty}
 use Rattle.heap.specs.declared.Heap.{Heap}
-use Rattle.heap.specs.declared.fault.Fault.{Fault}
-use Rattle.heap.specs.declared.fault.Fault.the-variants.{No, Count, Position, Order, FreeChain}
 use Rattle.heap.specs.Rules.{entryAt, stateAt, slotAt, before}
-use Rattle.heap.specs.Faults.{isFull, names, fullAt, emptyAt, positionOk, orderOk, faultBy, orElse, isNo}
-use Rattle.heap.proofs.fault.Fault.{the-type}
-
--- what the code finds to be of a kind after the first, `No`, is a fault
-pub is-fault : (f : Fault) → OneOf (1 ∷ 2 ∷ 3 ∷ 4 ∷ []) (tagOf the-type f) → isNo f ≡ false
-is-fault No o = absurd (⊎-elim (λ e. omega arith) (λ o. ⊎-elim (λ e. omega arith) (λ o. ⊎-elim (λ e. omega arith) (λ e. omega arith) o) o) o)
-is-fault Count o = refl
-is-fault (Position i) o = refl
-is-fault (Order i) o = refl
-is-fault (FreeChain k) o = refl
-
--- where there is a fault it is the first of the two
-pub stops : (f : Fault) {k : Fault} (g : Fault) → f ≡ k → isNo f ≡ false → f ≡ orElse k g
-stops f {k} g e b = go f b ∙ ap (λ (x : Fault). orElse x g) e
-  where
-    go : (f : Fault) → isNo f ≡ false → f ≡ orElse f g
-    go No b = absurd (true≢false b)
-    go Count b = refl
-    go (Position i) b = refl
-    go (Order i) b = refl
-    go (FreeChain k) b = refl
-
--- where there is none it is the second
-pub goes-on : {f k : Fault} (g : Fault) → f ≡ k → f ≡ No → g ≡ orElse k g
-goes-on g e n = ap (λ (x : Fault). orElse x g) (sym n ∙ e)
+use Rattle.heap.specs.Faults.{isFull, names, fullAt, emptyAt, positionOk, orderOk}
 
 -- the fault of a scan that has come to i and has the numbers below the end to go
-unfoldable pub scan : (ℕ → Fault) → (ℕ → Bool) → ℕ → ℕ → Fault
+unfoldable pub scan : (ℕ → Fault) → (ℕ → Bool) → ℕ → ℕ → Option Fault
 scan kind ok end i = faultBy kind (firstBad ok (end - i) i)
 
 module _ (kind : ℕ → Fault) (ok : ℕ → Bool) where
@@ -59,12 +32,12 @@ module _ (kind : ℕ → Fault) (ok : ℕ → Bool) where
       ap (faultBy kind) (sym (first-goes ok (end - i) i (omega arith) e ∙ ap (λ (n : ℕ). firstBad ok n (i + 1)) m))
 
   -- at a number that fails it stops
-  pub scan-here : {end i : ℕ} → i < end → ok i ≡ false → scan kind ok end i ≡ kind i
+  pub scan-here : {end i : ℕ} → i < end → ok i ≡ false → scan kind ok end i ≡ some (kind i)
   unfolding scan
   scan-here {end} {i} l e = ap (faultBy kind) (first-here ok (end - i) i (omega arith) e)
 
   -- with no number left there is no fault
-  pub scan-done : {end i : ℕ} → end ≤ i → scan kind ok end i ≡ No
+  pub scan-done : {end i : ℕ} → end ≤ i → scan kind ok end i ≡ none
   unfolding scan
   scan-done {end} {i} l = ap (faultBy kind) (first-done ok (end - i) i (omega arith))
 

@@ -17,30 +17,19 @@ use Rattle.theory.specs.WrongStep.{wrongStep}
 use Rattle.theory.proofs.Tests.{ref-by, ref-le, ref-eq, ref-and, ref-map, ref-true, true-false, none-some, and-left, and-right}
 use Rattle.theory.proofs.First.{none-all, all-none}
 use Rattle.theory.proofs.WrongStep.{wrong-none}
+use Rattle.refusals.specs.declared.fault.Fault.{Fault}
+use Rattle.refusals.specs.declared.fault.Fault.the-variants.{Count, Position, Order, FreeChain}
+use Rattle.refusals.specs.Faults.{orElse, clear}
+use Rattle.refusals.proofs.Faults.{clear-else, clear-by}
 use Rattle.heap.specs.Capacity.{cap}
 use Rattle.heap.specs.declared.SlotState.{SlotState}
 use Rattle.heap.specs.declared.SlotState.the-variants.{Full, Empty}
 use Rattle.heap.specs.declared.Heap.{Heap}
-use Rattle.heap.specs.declared.fault.Fault.{Fault}
-use Rattle.heap.specs.declared.fault.Fault.the-variants.{No, Count, Position, Order, FreeChain}
 use Rattle.heap.specs.Rules.{entryAt, stateAt, slotAt, before}
-use Rattle.heap.specs.Faults.{names, fullAt, emptyAt, nextAt, countOk, positionOk, orderOk, misplaced, disordered, faultBy, orElse, countFault, positionFault, orderFault, chainFault, faultOf, isNo, consistentOf}
+use Rattle.heap.specs.Faults.{names, fullAt, emptyAt, nextAt, countOk, positionOk, orderOk, countFault, positionFault, orderFault, chainFault, faultOf, consistentOf}
 use Rattle.heap.specs.Sound.{Sound, Counted}
 use Rattle.heap.proofs.Soundness.SoundFacts.{empty-made}
 use Rattle.heap.proofs.Testing.FaultLaws.{position-yes, order-not}
-
--- there is no first fault where there is neither of the two
-no-else : (f g : Fault) → isNo (orElse f g) ≡ (isNo f && isNo g)
-no-else No g = refl
-no-else Count g = refl
-no-else (Position i) g = refl
-no-else (Order i) g = refl
-no-else (FreeChain k) g = refl
-
--- the faults of a kind: none where the scan found none
-no-by : (kind : ℕ → Fault) → ((k : ℕ) → isNo (kind k) ≡ false) → (o : Option ℕ) → isNo (faultBy kind o) ≡ noFault o
-no-by kind f none = refl
-no-by kind f (some k) = f k
 
 -- a scan finds none exactly where all pass
 ref-all : (ok : ℕ → Bool) (n k : ℕ) → Ref ((i : ℕ) → k ≤ i → i < k + n → ok i ≡ true) (noFault (firstBad ok n k))
@@ -61,54 +50,54 @@ names-full (Empty n) i e = absurd (false≢true e)
 
 module _ (h : Heap) where
   -- each kind of fault is absent exactly where what it tests holds
-  ref-count : Ref ((h .len ≤ cap) × ((h .made ≤ cap) × (count (fullAt h) (h .made) ≡ h .len))) (isNo (countFault h))
+  pub ref-count : Ref ((h .len ≤ cap) × ((h .made ≤ cap) × (count (fullAt h) (h .made) ≡ h .len))) (clear (countFault h))
   unfolding countFault countOk
   ref-count = subst (Ref _) (go (countOk h)) (ref-and (ref-le (h .len) cap) (ref-and (ref-le (h .made) cap) (ref-eq (count (fullAt h) (h .made)) (h .len))))
     where
-      go : (b : Bool) → b ≡ isNo (cond b No Count)
+      go : (b : Bool) → b ≡ clear (cond b none (some Count))
       go true = refl
       go false = refl
 
   -- what holds of the counts where they have no fault
-  pub counts : {f : Fault} → f ≡ countFault h → f ≡ No → (h .len ≤ cap) × Counted h
+  pub counts : {f : Option Fault} → f ≡ countFault h → f ≡ none → (h .len ≤ cap) × Counted h
   counts e n =
-      let t = ref-true ref-count (ap isNo (sym e ∙ n)) in
+      let t = ref-true ref-count (ap clear (sym e ∙ n)) in
       (t .0, record { made-in = t .1 .0; counted = t .1 .1 })
 
-  ref-position : Ref ((i : ℕ) → 0 ≤ i → i < 0 + h .len → positionOk h i ≡ true) (isNo (positionFault h))
+  ref-position : Ref ((i : ℕ) → 0 ≤ i → i < 0 + h .len → positionOk h i ≡ true) (clear (positionFault h))
   unfolding positionFault
-  ref-position = rw (no-by misplaced (λ k. refl) (firstBad (positionOk h) (h .len) 0)) (ref-all (positionOk h) (h .len) 0)
+  ref-position = rw (clear-by Position (firstBad (positionOk h) (h .len) 0)) (ref-all (positionOk h) (h .len) 0)
 
-  ref-order : Ref ((i : ℕ) → 1 ≤ i → i < 1 + (h .len - 1) → orderOk h i ≡ true) (isNo (orderFault h))
+  ref-order : Ref ((i : ℕ) → 1 ≤ i → i < 1 + (h .len - 1) → orderOk h i ≡ true) (clear (orderFault h))
   unfolding orderFault
-  ref-order = rw (no-by disordered (λ k. refl) (firstBad (orderOk h) (h .len - 1) 1)) (ref-all (orderOk h) (h .len - 1) 1)
+  ref-order = rw (clear-by Order (firstBad (orderOk h) (h .len - 1) 1)) (ref-all (orderOk h) (h .len - 1) 1)
 
   abbrev chainTest : Bool
   chainTest = chainOkb (emptyAt h) (nextAt h) (h .made) (unless (h .made) (h .free .0))
 
-  chain-no : isNo (chainFault h) ≡ chainTest
+  chain-no : clear (chainFault h) ≡ chainTest
   unfolding chainFault
   chain-no =
-      no-by FreeChain (λ k. refl) (wrongStep (emptyAt h) (nextAt h) (h .made) (unless (h .made) (h .free .0)))
+      clear-by FreeChain (wrongStep (emptyAt h) (nextAt h) (h .made) (unless (h .made) (h .free .0)))
       ∙ wrong-none (emptyAt h) (nextAt h) (unless (h .made) (h .free .0)) (h .made) (empty-made h)
 
-  ref-chain : Ref (chainTest ≡ true) (isNo (chainFault h))
+  ref-chain : Ref (chainTest ≡ true) (clear (chainFault h))
   ref-chain = rw chain-no (ref-self chainTest)
 
   -- the four together
-  tested : isNo (countFault h) && (isNo (positionFault h) && (isNo (orderFault h) && isNo (chainFault h))) ≡ consistentOf h
+  tested : clear (countFault h) && (clear (positionFault h) && (clear (orderFault h) && clear (chainFault h))) ≡ consistentOf h
   unfolding consistentOf faultOf
   tested =
-      sym (no-else (countFault h) (orElse (positionFault h) (orElse (orderFault h) (chainFault h)))
-      ∙ ap (λ (b : Bool). isNo (countFault h) && b) (no-else (positionFault h) (orElse (orderFault h) (chainFault h))
-      ∙ ap (λ (b : Bool). isNo (positionFault h) && b) (no-else (orderFault h) (chainFault h))))
+      sym (clear-else (countFault h) (orElse (positionFault h) (orElse (orderFault h) (chainFault h)))
+      ∙ ap (λ (b : Bool). clear (countFault h) && b) (clear-else (positionFault h) (orElse (orderFault h) (chainFault h))
+      ∙ ap (λ (b : Bool). clear (positionFault h) && b) (clear-else (orderFault h) (chainFault h))))
 
   -- an entry passes exactly where its slot was made and is full with the entry's position
-  place-of : (i : ℕ) → positionOk h i ≡ true → (slotAt h i < h .made) × (stateAt h (slotAt h i) ≡ Full (record { 0 = i }))
+  pub place-of : (i : ℕ) → positionOk h i ≡ true → (slotAt h i < h .made) × (stateAt h (slotAt h i) ≡ Full (record { 0 = i }))
   unfolding positionOk
   place-of i e = (ltb-true _ _ (and-left _ _ e), names-full _ i (and-right (ltb (slotAt h i) (h .made)) _ e))
 
-  order-of : (i : ℕ) → orderOk h i ≡ true → before (entryAt h i) (entryAt h (parent i)) ≡ false
+  pub order-of : (i : ℕ) → orderOk h i ≡ true → before (entryAt h i) (entryAt h (parent i)) ≡ false
   unfolding orderOk
   order-of i e = not-true _ e
 
@@ -119,7 +108,7 @@ module _ (h : Heap) where
   -- and the slot of each entry was made, and is full with the entry's position
   pub tested-forth : consistentOf h ≡ true → (p : ℕ) → p < h .len → (slotAt h p < h .made) × (stateAt h (slotAt h p) ≡ Full (record { 0 = p }))
   tested-forth e p l =
-      place-of p (ref-true ref-position (and-left _ _ (and-right (isNo (countFault h)) _ (tested ∙ e))) p (omega arith) (omega arith))
+      place-of p (ref-true ref-position (and-left _ _ (and-right (clear (countFault h)) _ (tested ∙ e))) p (omega arith) (omega arith))
 
   -- the heap test says yes exactly where the heap is sound; how long the arrays are the code's types say
   pub sound-test : length (h .entries) ≡ cap → length (h .slots) ≡ cap → Ref (Sound h) (consistentOf h)

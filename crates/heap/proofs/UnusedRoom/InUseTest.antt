@@ -16,12 +16,13 @@ use Rattle.theory.proofs.Tests.{ref-lt}
 use Rattle.theory.proofs.First.{first-same}
 use Rattle.theory.proofs.Counting.{count-same}
 use Rattle.theory.proofs.WrongStep.{wrong-same}
+use Rattle.refusals.specs.declared.fault.Fault.the-variants.{Count, Position, Order, FreeChain}
+use Rattle.refusals.specs.Faults.{orElse, faultBy, clear}
 use Rattle.heap.specs.Capacity.{cap}
 use Rattle.heap.specs.declared.SlotState.{SlotState}
 use Rattle.heap.specs.declared.Heap.{Heap}
-use Rattle.heap.specs.declared.fault.Fault.the-variants.{No, Count, FreeChain}
 use Rattle.heap.specs.Rules.{stateAt, slotAt, before}
-use Rattle.heap.specs.Faults.{isFull, names, linkOf, fullAt, emptyAt, nextAt, countOk, positionOk, orderOk, misplaced, disordered, faultBy, orElse, countFault, positionFault, orderFault, chainFault, faultOf, isNo, consistentOf}
+use Rattle.heap.specs.Faults.{isFull, names, linkOf, fullAt, emptyAt, nextAt, countOk, positionOk, orderOk, countFault, positionFault, orderFault, chainFault, faultOf, consistentOf}
 use Rattle.heap.specs.InUse.{SameInUse}
 use Rattle.heap.proofs.AsList.Items.{and-same}
 use Rattle.heap.proofs.Soundness.SoundFacts.{empty-made}
@@ -58,14 +59,14 @@ module _ (g h : Heap) (r : SameInUse g h) where
   position-fault : positionFault g ≡ positionFault h
   unfolding positionFault
   position-fault =
-      ap (faultBy misplaced)
+      ap (faultBy Position)
       (ap (λ (n : ℕ). firstBad (positionOk g) n 0) (r .same-len)
       ∙ first-same (positionOk g) (positionOk h) (h .len) 0 (λ i l b. position-ok i (omega arith)))
 
   order-fault : orderFault g ≡ orderFault h
   unfolding orderFault
   order-fault =
-      ap (faultBy disordered)
+      ap (faultBy Order)
       (ap (λ (n : ℕ). firstBad (orderOk g) (n - 1) 1) (r .same-len)
       ∙ first-same (orderOk g) (orderOk h) (h .len - 1) 1 (λ i l b. order-ok i (omega arith)))
 
@@ -80,9 +81,9 @@ module _ (g h : Heap) (r : SameInUse g h) where
   -- the scans find the same fault
   pub fault-in-use : faultOf g ≡ faultOf h
   unfolding faultOf countFault
-  fault-in-use = λ t. orElse (cond (count-ok t) No Count) (orElse (position-fault t) (orElse (order-fault t) (chain-fault t)))
+  fault-in-use = λ t. orElse (cond (count-ok t) none (some Count)) (orElse (position-fault t) (orElse (order-fault t) (chain-fault t)))
 
   -- the test says the same
   pub consistent-in-use : consistentOf g ≡ consistentOf h
   unfolding consistentOf
-  consistent-in-use = ap isNo fault-in-use
+  consistent-in-use = ap clear fault-in-use

@@ -5,13 +5,13 @@ use borrow.Author.Needs.{needs}
 use lib.ListN.{length}
 use Rattle.theory.proofs.Stores.{unmapped}
 use Rattle.heap.specs.Capacity.{cap}
-use Rattle.heap.proofs.Soundness.Guarding.{passed}
+use Rattle.heap.proofs.Soundness.Guarding.{passed, turned}
 use Rattle.heap.proofs.Testing.Test.{consistent-sound}
 use Rattle.heap.proofs.remove.Statement.{statement}
 use Rattle.heap.proofs.remove.Tie as tie
 
 returns : tie.Need-returns
-returns c = rw (← (rw (c .before .why .given .1) at (c .before .before .before .guarded .ensures)))
+returns c = rw (← (rw (c .before .why .given .1) at (c .before .before .before .guarded .ensures))) (turned _ _ (c .before .why .given .0 .0))
 
 remove-sound-requires : tie.Need-remove-sound-requires
 remove-sound-requires c κs =

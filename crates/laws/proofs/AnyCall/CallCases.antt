@@ -9,8 +9,10 @@ use Prim.Native.Nat.{ℕ, _≤_}
 use lib.Dec.{leb}
 use lib.ListN.{length}
 use borrow.Author.Tests.{leb-true}
+use Rattle.refusals.specs.declared.fault.Fault.{Fault}
 use Rattle.refusals.specs.declared.Refusal.the-variants.{Unsound, Closed, NotFired, ShortList}
-use Rattle.refusals.specs.Answer.{Answer, accepted, refused, Outcome, kept}
+use Rattle.refusals.specs.Answer.{Answer, accepted, refused, unsound, isAccepted, Outcome, kept}
+use Rattle.refusals.specs.Faults.{clear}
 use Rattle.heap.specs.Capacity.{cap}
 use Rattle.word.specs.Rules as Word
 use Rattle.interval.specs.declared.Policy.{Policy}
@@ -18,10 +20,10 @@ use Rattle.interval.specs.Rules.{tickOf, restartOf}
 use Rattle.state.specs.declared.Life.the-variants.{Live, Cancelled}
 use Rattle.state.specs.declared.Set.{Set}
 use Rattle.state.specs.declared.Handle.{Handle}
-use Rattle.state.specs.Faults.{soundOf}
+use Rattle.state.specs.Faults.{faultOf, soundOf}
 use Rattle.moves.specs.Rules.{touchedOf, lowestFree, drainedOf, advancedOf, closedOf}
 use Rattle.timers.specs.Calls as Calls
-use Rattle.timers.specs.Calls.{Value, Lent, Timing, gives, refusing, guarded, opened, liveAt, alive, addedAt, resetTo, lent, rang, roomy, tickedBy, restartedBy}
+use Rattle.timers.specs.Calls.{Value, Lent, Timing, judged, gives, refusing, guarded, opened, liveAt, alive, addedAt, resetTo, lent, rang, roomy, tickedBy, restartedBy}
 use Rattle.laws.proofs.Handles.ByHandle.{handleAt}
 
 -- both tests have let a call through
@@ -29,31 +31,31 @@ pub record LetIn (s : Set) : Type 0 where
   pub sound : soundOf s ≡ true
   pub still-open : s .closed ≡ false
 
-module _ {S : Type 0} (P : Outcome S Value → Type 0) (s : Set) (k : S) (no : (n : ℕ) → P (kept k n)) where
+module _ {S : Type 0} (P : Outcome S Value → Type 0) (s : Set) (k : S) (no : (a : Answer Value) → isAccepted a ≡ false → P (kept k a)) where
   -- behind the test of soundness
   pub sound-by : (o : Outcome S Value) → (soundOf s ≡ true → P o) → P (guarded s k o)
-  unfolding guarded
-  sound-by o f = go (soundOf s) refl
+  unfolding guarded soundOf
+  sound-by o f = go (faultOf s) f
     where
-      go : (b : Bool) → soundOf s ≡ b → P (cond b o (refusing k Unsound))
-      go true e = f e
-      go false e = no _
+      go : (x : Option Fault) → (clear x ≡ true → P o) → P (judged x o (λ y. refusing k (Unsound y)))
+      go none f = f refl
+      go (some y) f = no _ refl
 
   -- behind both tests
   open-by : (o : Outcome S Value) → (LetIn s → P o) → P (guarded s k (opened s k o))
   open-by o f = sound-by (opened s k o) (λ q. go (s .closed) refl q)
     where
       go : (b : Bool) → s .closed ≡ b → soundOf s ≡ true → P (cond b (refusing k Closed) o)
-      go true e q = no _
+      go true e q = no _ refl
       go false e q = f (record { sound = q; still-open = e })
 
-module _ (P : Outcome Set Value → Type 0) (s : Set) (no : (n : ℕ) → P (kept s n)) where
+module _ (P : Outcome Set Value → Type 0) (s : Set) (no : (a : Answer Value) → isAccepted a ≡ false → P (kept s a)) where
   -- where a live handle is asked for
   pub alive-by : (h : Handle) (f : Timing → Outcome Set Value) → ((t : Timing) → liveAt s h ≡ some t → P (f t)) → P (alive s (liveAt s h) f)
   alive-by h f g = go (liveAt s h) refl
     where
       go : (x : Option Timing) → liveAt s h ≡ x → P (alive s x f)
-      go none e = no _
+      go none e = no _ refl
       go (some t) e = g t e
 
   -- an add takes the lowest free place
@@ -62,7 +64,7 @@ module _ (P : Outcome Set Value → Type 0) (s : Set) (no : (n : ℕ) → P (kep
   add-by d f = open-by P s s no (addedAt s d (lowestFree s)) (λ a. go (lowestFree s) (f a))
     where
       go : (x : Option ℕ) → ((p : ℕ) → x ≡ some p → P (gives (touchedOf s p (Live 0 d)) (Calls.handle (handleAt s p)))) → P (addedAt s d x)
-      go none f = no _
+      go none f = no _ refl
       go (some p) f = f p refl
 
   -- a reset, of a live timer
@@ -107,8 +109,9 @@ module _ (P : Outcome Set Value → Type 0) (s : Set) (no : (n : ℕ) → P (kep
       go : (t : Timing) (b : Bool) (x : Answer ℕ) → (b ≡ true → (d : ℕ) → x ≡ accepted d → P (gives (resetTo s h d t) (Calls.time (t .due))))
           → P (cond b (tickedBy s h t x) (refusing s NotFired))
       go t true (accepted d) f = f refl d refl
-      go t true (refused n) f = no n
-      go t false x f = no _
+      go t true (refused n) f = no (refused n) refl
+      go t true (unsound y) f = no (unsound y) refl
+      go t false x f = no _ refl
 
   -- an interval reset, of a live timer, where the rule has a deadline
   pub restart-by : (h : Handle) (period N : ℕ)
@@ -119,16 +122,17 @@ module _ (P : Outcome Set Value → Type 0) (s : Set) (no : (n : ℕ) → P (kep
     where
       go : (t : Timing) (x : Answer ℕ) → ((d : ℕ) → x ≡ accepted d → P (gives (resetTo s h d t) Calls.nothing)) → P (restartedBy s h t x)
       go t (accepted d) f = f d refl
-      go t (refused n) f = no n
+      go t (refused n) f = no (refused n) refl
+      go t (unsound y) f = no (unsound y) refl
 
-module _ (P : Outcome Lent Value → Type 0) (s : Set) (l : List ℕ) (no : (n : ℕ) → P (kept (lent s l) n)) where
+module _ (P : Outcome Lent Value → Type 0) (s : Set) (l : List ℕ) (no : (a : Answer Value) → isAccepted a ≡ false → P (kept (lent s l) a)) where
   -- where room is asked for
   roomy-by : (o : Outcome Lent Value) → (LetIn s → cap ≤ length l → P o) → P (guarded s (lent s l) (opened s (lent s l) (roomy s l o)))
   roomy-by o f = open-by P s (lent s l) no (roomy s l o) (λ a. go (leb cap (length l)) (λ e. f a (leb-true cap (length l) e)))
     where
       go : (b : Bool) → (b ≡ true → P o) → P (cond b o (refusing (lent s l) ShortList))
       go true f = f refl
-      go false f = no _
+      go false f = no _ refl
 
   -- an advance, with room in the lent list
   pub advance-by : (N : ℕ) → (LetIn s → cap ≤ length l → P (rang (advancedOf s N l))) → P (Calls.advanceOf s N l)

@@ -8,8 +8,9 @@ use mathlib.Core.List.{List}
 use Prim.Native.Nat.{ℕ}
 use lib.Dec.{leb}
 use lib.ListN.{length}
+use Rattle.refusals.specs.declared.fault.Fault.{Fault}
 use Rattle.refusals.specs.declared.Refusal.the-variants.{Unsound, Closed, ShortList, NotFired}
-use Rattle.refusals.specs.Answer.{Answer, accepted, refused, Outcome}
+use Rattle.refusals.specs.Answer.{Answer, accepted, refused, unsound, Outcome}
 use Rattle.heap.specs.Capacity.{cap}
 use Rattle.heap.specs.Calls.{peekSound}
 use Rattle.word.specs.Rules as Word
@@ -18,11 +19,11 @@ use Rattle.interval.specs.Rules.{tickOf, restartOf}
 use Rattle.state.specs.declared.Life.the-variants.{Live, Cancelled}
 use Rattle.state.specs.declared.Set.{Set}
 use Rattle.state.specs.declared.Handle.{Handle}
-use Rattle.state.specs.Faults.{soundOf}
+use Rattle.state.specs.Faults.{faultOf}
 use Rattle.timers.specs.declared.Call.{Call}
 use Rattle.timers.specs.declared.Call.the-variants as C
 use Rattle.moves.specs.Rules.{touchedOf, lowestFree, drainedOf, advancedOf, closedOf}
-use Rattle.timers.specs.Calls.{Value, nothing, wake, polled, Lent, gives, refusing, guarded, opened, Timing, liveAt, alive, addedAt, addOf, resetTo, resetOf, cancelOf, drainOf, lent, rang, roomy, advanceOf, turnOf, wakeBy, nextWakeOf, pollBy, pollOf, closeOf, tickedBy, ticked, tickAt, restartedBy, restartAt, step}
+use Rattle.timers.specs.Calls.{Value, nothing, wake, polled, Lent, judged, gives, refusing, guarded, opened, Timing, liveAt, alive, addedAt, addOf, resetTo, resetOf, cancelOf, drainOf, lent, rang, roomy, advanceOf, turnOf, wakeBy, nextWakeOf, pollBy, pollOf, closeOf, tickedBy, ticked, tickAt, restartedBy, restartAt, step}
 
 -- what is to be shown of a set for every call to keep it
 pub record Kept (P : Set → Type 0) (s : Set) : Type 0 where
@@ -42,12 +43,12 @@ pub record KeptOn (P : Set → Type 0) (s : Set) : Type 0 where
 guarded-keeps : {S : Type 0} (Q : S → Type 0) (s : Set) (k : S) → Q k → (o : Outcome S Value) → (s .closed ≡ false → Q (o .state))
     → Q (guarded s k (opened s k o) .state)
 unfolding guarded
-guarded-keeps {S} Q s k now o f = go (soundOf s) (s .closed) refl
+guarded-keeps {S} Q s k now o f = go (faultOf s) (s .closed) refl
   where
-    go : (a b : Bool) → s .closed ≡ b → Q ((cond a (cond b (refusing k Closed) o) (refusing k Unsound)) .state)
-    go true true e = now
-    go true false e = f e
-    go false b e = now
+    go : (x : Option Fault) (b : Bool) → s .closed ≡ b → Q (judged x (cond b (refusing k Closed) o) (λ y. refusing k (Unsound y)) .state)
+    go none true e = now
+    go none false e = f e
+    go (some y) b e = now
 
 module _ (P : Set → Type 0) (s : Set) (k : Kept P s) where
   alive-keeps : (h : Handle) (f : Timing → Outcome Set Value) → ((t : Timing) → liveAt s h ≡ some t → P (f t .state))
@@ -91,6 +92,7 @@ module _ (P : Set → Type 0) (s : Set) (k : Kept P s) where
       → P ((cond b (tickedBy s h t a) (refusing s NotFired)) .state)
   ticked-keeps h t f true (accepted d) = f d
   ticked-keeps h t f true (refused n) = k .now
+  ticked-keeps h t f true (unsound y) = k .now
   ticked-keeps h t f false a = k .now
 
   -- tick
@@ -103,6 +105,7 @@ module _ (P : Set → Type 0) (s : Set) (k : Kept P s) where
   restarted-keeps : (h : Handle) (t : Timing) → ((d : ℕ) → P (resetTo s h d t)) → (a : Answer ℕ) → P (restartedBy s h t a .state)
   restarted-keeps h t f (accepted d) = f d
   restarted-keeps h t f (refused n) = k .now
+  restarted-keeps h t f (unsound y) = k .now
 
   -- interval reset
   restart-keeps-it : (h : Handle) (period N : ℕ) → P (restartAt s h period N .state)
@@ -114,20 +117,20 @@ module _ (P : Set → Type 0) (s : Set) (k : Kept P s) where
   -- next wake
   wake-keeps-it : P (nextWakeOf s .state)
   unfolding nextWakeOf guarded
-  wake-keeps-it = go (soundOf s)
+  wake-keeps-it = go (faultOf s)
     where
-      go : (b : Bool) → P ((cond b (gives s (wake (wakeBy (peekSound (s .heap))))) (refusing s Unsound)) .state)
-      go true = k .now
-      go false = k .now
+      go : (x : Option Fault) → P (judged x (gives s (wake (wakeBy (peekSound (s .heap))))) (λ y. refusing s (Unsound y)) .state)
+      go none = k .now
+      go (some y) = k .now
 
   -- poll
   poll-keeps-it : (h : Handle) → P (pollOf s h .state)
   unfolding pollOf guarded
-  poll-keeps-it h = go (soundOf s)
+  poll-keeps-it h = go (faultOf s)
     where
-      go : (b : Bool) → P ((cond b (alive s (liveAt s h) (λ t. gives s (polled (pollBy (Word.pollOf (t .word)))))) (refusing s Unsound)) .state)
-      go true = alive-keeps h (λ t. gives s (polled (pollBy (Word.pollOf (t .word))))) (λ t e. k .now)
-      go false = k .now
+      go : (x : Option Fault) → P (judged x (alive s (liveAt s h) (λ t. gives s (polled (pollBy (Word.pollOf (t .word)))))) (λ y. refusing s (Unsound y)) .state)
+      go none = alive-keeps h (λ t. gives s (polled (pollBy (Word.pollOf (t .word))))) (λ t e. k .now)
+      go (some y) = k .now
 
   module _ (on : KeptOn P s) where
     roomy-keeps : (l : List ℕ) (o : Outcome Lent Value) → P (o .state .set) → P (roomy s l o .state .set)

@@ -16,7 +16,7 @@ use Rattle.state.specs.State.{timerAt}
 use Rattle.timers.specs.declared.Call.{Call}
 use Rattle.moves.specs.Rules.{drainedOf}
 use Rattle.timers.specs.Calls.{Value, handle, liveAt, addOf, cancelOf, after}
-use Rattle.timers.proofs.Guarding.{not-both}
+use Rattle.refusals.proofs.Refusing.{never}
 use Rattle.laws.specs.Past.{Given, Past}
 use Rattle.laws.specs.ByHandle.{stepped}
 use Rattle.laws.proofs.PlaceByPlace.Places.{Each}
@@ -62,7 +62,7 @@ module _ (s : Set) where
   -- an add's handle was not given out before
   add-new : (d : ℕ) (h : Handle) → addOf s d .answer ≡ accepted (handle h) → Given s h → ⊥
   add-new d h =
-      add-by (λ o. o .answer ≡ accepted (handle h) → Given s h → ⊥) s (λ m e. absurd (not-both (sym e))) d
+      add-by (λ o. o .answer ≡ accepted (handle h) → Given s h → ⊥) s (λ m r e. never r e) d
       (λ _ p f e g. let q : handleAt s p ≡ h = cc in added-new s p f (subst (Given s) (sym q) g))
 
   -- and is so afterwards
@@ -72,7 +72,7 @@ module _ (s : Set) where
   -- a cancel's handle is past afterwards
   cancel-past : (h : Handle) (v : Value) → length (s .timers) ≡ cap → cancelOf s h .answer ≡ accepted v → Past (cancelOf s h .state) h
   cancel-past h v n =
-      cancel-by (λ o. o .answer ≡ accepted v → Past (o .state) h) s (λ m e. absurd (not-both (sym e))) h (λ _ t l _. cancelled-past s h t n l)
+      cancel-by (λ o. o .answer ≡ accepted v → Past (o .state) h) s (λ m r e. never r e) h (λ _ t l _. cancelled-past s h t n l)
 
 -- ANY NUMBER OF CALLS
 

@@ -10,8 +10,11 @@ use lib.IntN.{ℤ}
 use Rattle.theory.specs.Least.{through}
 use Rattle.theory.proofs.Least.{Found, Told, least-told}
 use Rattle.theory.proofs.Tests.{none-some}
-use Rattle.refusals.specs.declared.Refusal.the-variants.{Unsound, Closed}
-use Rattle.refusals.specs.Answer.{Answer, accepted, refused, refuse}
+use Rattle.refusals.specs.declared.fault.Fault.{Fault}
+use Rattle.refusals.specs.declared.Refusal.the-variants.{Unsound, Closed, DeadHandle}
+use Rattle.refusals.specs.Answer.{Answer, accepted, refused, unsound, refuse}
+use Rattle.refusals.specs.Faults.{clear}
+use Rattle.refusals.proofs.Refusing.{not-both, never}
 use Rattle.refusals.specs.Times.{signed, differenceOf}
 use Rattle.heap.specs.Capacity.{cap}
 use Rattle.word.specs.Rules.{firedIn, invalidIn}
@@ -21,12 +24,12 @@ use Rattle.state.specs.declared.Life.the-variants.{Free, Live, Cancelled, Retir
 use Rattle.state.specs.declared.Set.{Set}
 use Rattle.state.specs.declared.Handle.{Handle}
 use Rattle.state.specs.State.{timerAt}
-use Rattle.state.specs.Faults.{soundOf}
-use Rattle.state.proofs.PlaceTest.{Goes}
+use Rattle.state.specs.Faults.{faultOf, soundOf}
+use Rattle.state.specs.Named.{Goes}
 use Rattle.state.proofs.Parts.{places-fine}
-use Rattle.timers.specs.Calls.{polled, Timing, timingOf, liveAt, alive, living, guarded, doorOf, pollBy, pollOf, gives}
+use Rattle.timers.specs.Calls.{judged, refusing, polled, Timing, timingOf, liveAt, alive, living, guarded, doorOf, pollBy, pollOf, gives}
 use Rattle.timers.specs.Left.{leftAt, timeLeftBy, timeLeftOf, pendingIn, pendingAt, orNone, leastBy, leastLeftOf, soonestOf}
-use Rattle.timers.proofs.Guarding.{not-both}
+use Rattle.timers.proofs.Guarding.{sound-none}
 use Rattle.timers.proofs.Shortest.{least-open}
 use Rattle.laws.specs.Pending.{Pending, Foremost}
 use Rattle.laws.proofs.Handles.Naming.{names-same, live-in-range, live-told}
@@ -47,20 +50,20 @@ unfired-word w e = go (firedIn w) (invalidIn w) e
     go false i e = refl
 
 pub pending-told : (s : Set) (h : Handle) → Pending s h → PendingTold s h
-unfolding pollOf guarded
-pending-told s h e = go (soundOf s) (liveAt s h) refl refl e
+unfolding pollOf guarded soundOf
+pending-told s h e = go (faultOf s) (liveAt s h) refl refl e
   where
-    go : (b : Bool) (o : Option Timing) → soundOf s ≡ b → liveAt s h ≡ o
-        → cond b (alive s o (λ t. gives s (polled (pollBy (Word.pollOf (t .word)))))) (record { state = s; answer = refused 1 }) .answer ≡ accepted (polled 0)
+    go : (b : Option Fault) (o : Option Timing) → faultOf s ≡ b → liveAt s h ≡ o
+        → judged b (alive s o (λ t. gives s (polled (pollBy (Word.pollOf (t .word)))))) (λ x. refusing s (Unsound x)) .answer ≡ accepted (polled 0)
         → PendingTold s h
-    go true (some t) p q e = record {
-      sound = p;
+    go none (some t) p q e = record {
+      sound = ap clear p;
       timing = t;
       found = q;
       unfired = let z : pollBy (Word.pollOf (t .word)) ≡ 0 = cc in unfired-word (t .word) z;
     }
-    go true none p q e = absurd (not-both (sym e))
-    go false o p q e = absurd (not-both (sym e))
+    go none none p q e = absurd (not-both DeadHandle (sym e))
+    go (some x) o p q e = absurd (not-both (Unsound x) (sym e))
 
 -- and the place of such a handle has its deadline among those that count
 pub pending-place : (s : Set) (h : Handle) (t : Timing) → liveAt s h ≡ some t → firedIn (t .word) ≡ false
@@ -71,10 +74,10 @@ pending-place s h t e u =
 -- what a poll of a live handle answers
 poll-of : (s : Set) (h : Handle) (t : Timing) → soundOf s ≡ true → liveAt s h ≡ some t → pollOf s h .answer ≡ accepted (polled (pollBy (Word.pollOf (t .word))))
 unfolding pollOf guarded
-poll-of s h t p e = go (soundOf s) (liveAt s h) p e
+poll-of s h t p e = go (faultOf s) (liveAt s h) (sound-none s p) e
   where
-    go : (b : Bool) (o : Option Timing) → b ≡ true → o ≡ some t
-        → cond b (alive s o (λ t. gives s (polled (pollBy (Word.pollOf (t .word)))))) (record { state = s; answer = refused 1 }) .answer
+    go : (b : Option Fault) (o : Option Timing) → b ≡ none → o ≡ some t
+        → judged b (alive s o (λ t. gives s (polled (pollBy (Word.pollOf (t .word)))))) (λ x. refusing s (Unsound x)) .answer
         ≡ accepted (polled (pollBy (Word.pollOf (t .word))))
     go b o p e = rw (p, e)
 
@@ -118,25 +121,26 @@ module _ (s : Set) (N : ℕ) where
   -- a closed set refuses both with 2
   pub least-closed : soundOf s ≡ true → s .closed ≡ true → leastLeftOf s N ≡ refuse Closed
   unfolding leastLeftOf
-  least-closed p q = go (soundOf s) (s .closed) _ p q
+  least-closed p q = go (faultOf s) (s .closed) _ (sound-none s p) q
     where
-      go : (b c : Bool) (a : Answer (Option ℤ)) → b ≡ true → c ≡ true → cond b (cond c (refuse Closed) a) (refuse Unsound) ≡ refuse Closed
+      go : (b : Option Fault) (c : Bool) (a : Answer (Option ℤ)) → b ≡ none → c ≡ true → judged b (cond c (refuse Closed) a) (λ x. refuse (Unsound x)) ≡ refuse Closed
       go b c a p q = rw (p, q)
 
   pub left-closed : (h : Handle) → soundOf s ≡ true → s .closed ≡ true → timeLeftOf s h N ≡ refuse Closed
   unfolding timeLeftOf doorOf
-  left-closed h p q = go (soundOf s) (s .closed) _ p q
+  left-closed h p q = go (faultOf s) (s .closed) _ (sound-none s p) q
     where
-      go : (b c : Bool) (a : Answer Timing) → b ≡ true → c ≡ true → timeLeftBy N (cond b (cond c (refuse Closed) a) (refuse Unsound)) ≡ refuse Closed
+      go : (b : Option Fault) (c : Bool) (a : Answer Timing) → b ≡ none → c ≡ true
+          → timeLeftBy N (judged b (cond c (refuse Closed) a) (λ x. refuse (Unsound x))) ≡ refuse Closed
       go b c a p q = rw (p, q)
 
   -- of a live handle the time left is the difference from its deadline
   pub left-of : (h : Handle) (t : Timing) → soundOf s ≡ true → s .closed ≡ false → liveAt s h ≡ some t → timeLeftOf s h N ≡ differenceOf (t .due) N
   unfolding timeLeftOf doorOf
-  left-of h t p q e = go (soundOf s) (s .closed) (liveAt s h) p q e
+  left-of h t p q e = go (faultOf s) (s .closed) (liveAt s h) (sound-none s p) q e
     where
-      go : (b c : Bool) (o : Option Timing) → b ≡ true → c ≡ false → o ≡ some t
-          → timeLeftBy N (cond b (cond c (refuse Closed) (living o)) (refuse Unsound)) ≡ differenceOf (t .due) N
+      go : (b : Option Fault) (c : Bool) (o : Option Timing) → b ≡ none → c ≡ false → o ≡ some t
+          → timeLeftBy N (judged b (cond c (refuse Closed) (living o)) (λ x. refuse (Unsound x))) ≡ differenceOf (t .due) N
       go b c o p q e = rw (p, q, e)
 
 -- the earliest deadline that counts is that of a pending handle which has the least one
@@ -204,10 +208,11 @@ pending-none s N e h k = go (s .closed) refl
       where
         shown : (a : Answer ℤ) → orNone a ≡ accepted none → ⊥
         shown (accepted z) q = let y : some z ≡ none = cc in none-some y refl
-        shown (refused n) q = not-both (sym q)
+        shown (refused n) q = never refl q
+        shown (unsound x) q = never refl q
 
     go : (b : Bool) → s .closed ≡ b → ⊥
-    go true c = not-both (sym e ∙ least-closed s N (t .sound) c)
+    go true c = not-both Closed (sym e ∙ least-closed s N (t .sound) c)
     go false c = by (soonestOf s) (least-told (pendingAt s) cap) (sym (least-open s N (t .sound, c)) ∙ e)
 
 -- where a handle is pending, one is foremost

@@ -7,7 +7,7 @@ use mathlib.Core.List.{List, [], _∷_}
 use Prim.Native.Nat.{ℕ, _<_}
 use lib.ListN.{getD}
 use Rattle.theory.proofs.Tests.{none-some, true-false}
-use Rattle.refusals.specs.Answer.{Answer, accepted, refused, Outcome, kept}
+use Rattle.refusals.specs.Answer.{Answer, accepted, isAccepted, Outcome, kept}
 use Rattle.heap.specs.Capacity.{cap}
 use Rattle.state.specs.declared.Set.{Set}
 use Rattle.state.specs.declared.Handle.{Handle}
@@ -18,7 +18,7 @@ use Rattle.timers.specs.declared.Call.{Call}
 use Rattle.timers.specs.declared.Call.the-variants as C
 use Rattle.moves.specs.Rules.{drainedOf, Ring, advancedOf}
 use Rattle.timers.specs.Calls.{Value, nothing, handle, counts, wake, polled, time, Lent, timingOf, liveAt, lent, rang, step, after, cancelOf, nextWakeOf, pollOf}
-use Rattle.timers.proofs.Guarding.{not-both}
+use Rattle.refusals.proofs.Refusing.{never}
 use Rattle.laws.specs.Words.{Fit}
 use Rattle.laws.specs.Advanced.{Handled}
 use Rattle.laws.specs.Reports.{Reports, OfLive}
@@ -48,8 +48,8 @@ abbrev Silent : Answer Value → Type 0
 Silent a = (r p : ℕ) → a ≡ accepted (counts r p) → ⊥
 
 -- a refusal is one
-refused-silent : (n : ℕ) → Silent (refused n)
-refused-silent n r p e = not-both (sym e)
+refused-silent : (a : Answer Value) → isAccepted a ≡ false → Silent a
+refused-silent a q r p e = never q e
 
 abbrev isCounts : Value → Bool
 isCounts nothing = false
@@ -82,11 +82,11 @@ abbrev Rings : Set → Outcome Lent Value → Type 0
 Rings s o = AllLive s (o .state .list) (o .answer)
 
 module _ (s : Set) where
-  no : (n : ℕ) → Quiet (kept s n)
+  no : (a : Answer Value) → isAccepted a ≡ false → Quiet (kept s a)
   no = refused-silent
 
-  refused-live : (l : List ℕ) (n : ℕ) → Rings s (kept (lent s l) n)
-  refused-live l n = silent-live s l (refused n) (refused-silent n)
+  refused-live : (l : List ℕ) (a : Answer Value) → isAccepted a ≡ false → Rings s (kept (lent s l) a)
+  refused-live l a q = silent-live s l a (refused-silent a q)
 
   -- no call but an advance and a turn answers counts, and these report live handles alone
   all-live : Fit s → (c : Call) (l : List ℕ) → Rings s (step s c l)
@@ -126,7 +126,7 @@ pub cancelled-unreported : (s : Set) → Fit s → (h : Handle) (v : Value) → 
 unfolding step
 cancelled-unreported s f h v e cs =
     dead-unreported (after cs (cancelOf s h .state)) (after-fit ((C.Cancel h, []) ∷ cs) s f) h
-    (cancel-by (λ o. o .answer ≡ accepted v → h .place .0 < cap) s (λ m q. absurd (not-both (sym q))) h (λ _ t q _. live-told s h t q .in-range) e)
+    (cancel-by (λ o. o .answer ≡ accepted v → h .place .0 < cap) s (λ m r q. never r q) h (λ _ t q _. live-told s h t q .in-range) e)
     (cancelled-stays-dead s h v (f .words .long) e cs)
 
 -- and so from a fresh set, whatever calls came before the cancel

@@ -8,8 +8,7 @@ use Prim.Native.Nat.{ℕ}
 use lib.ListN.{length, getD}
 use Rattle.theory.proofs.Tests.{ref-le}
 use Rattle.refusals.specs.declared.Refusal.the-variants.{Full, ShortList, NotFired}
-use Rattle.refusals.specs.Numbers.{numberOf}
-use Rattle.refusals.specs.Answer.{Answer, accepted, refused, Outcome}
+use Rattle.refusals.specs.Answer.{Answer, accepted, refused, unsound, refuse, Outcome}
 use Rattle.heap.specs.Capacity.{cap}
 use Rattle.heap.specs.declared.Entry.{Entry}
 use Rattle.heap.proofs.UnusedRoom.InUseWalks.{choose-ref}
@@ -44,7 +43,7 @@ module _ {a b : Set} (r : Twins a b) where
       found = by-heap (λ (c d : Set). lowestFree c ≡ lowestFree d) (λ s g _. refl) r
 
       go : Alike a b → (x : Option ℕ) → SameOutcome Twins (addedAt a d x) (addedAt b d x)
-      go q none = kept-same Twins r (numberOf Full)
+      go q none = kept-same Twins r (refuse Full)
       go q (some p) = record {
         answers = λ t. accepted (handle (record { place = record { 0 = p }; uses = getD (r .same .same-timers t) p noTimer .uses }));
         states = touched-alike q p (Live 0 d) .twins;
@@ -71,7 +70,7 @@ module _ {a b : Set} (r : Twins a b) where
   rang-same l e =
       choose-ref (SameOutcome SameLent) refl (ref-le cap (length l))
       (λ _. record { answers = λ t. accepted (counts (e .reported t) (e .popped t)); states = record { sets = e .sets .twins; lists = e .lists } })
-      (λ _. kept-same SameLent (record { sets = r; lists = refl }) (numberOf ShortList))
+      (λ _. kept-same SameLent (record { sets = r; lists = refl }) (refuse ShortList))
 
   advance-same : (N : ℕ) (l : List ℕ) → SameOutcome SameLent (advanceOf a N l) (advanceOf b N l)
   unfolding advanceOf
@@ -104,11 +103,12 @@ module _ {a b : Set} (r : Twins a b) where
       open-same r Twins r
       (λ q. alive-same r h
       (λ t. choose-ref (SameOutcome Twins) refl (ref-self (Word.firedIn (t .word))) (λ _. go q t (tickOf p (t .due) period N))
-      (λ _. kept-same Twins r (numberOf NotFired))))
+      (λ _. kept-same Twins r (refuse NotFired))))
     where
       go : Alike a b → (t : Timing) (x : Answer ℕ) → SameOutcome Twins (tickedBy a h t x) (tickedBy b h t x)
       go q t (accepted d) = reset-to q h d t (time (t .due))
-      go q t (refused n) = kept-same Twins r n
+      go q t (refused n) = kept-same Twins r (refused n)
+      go q t (unsound x) = kept-same Twins r (unsound x)
 
   restart-same : (h : Handle) (period N : ℕ) → SameOutcome Twins (restartAt a h period N) (restartAt b h period N)
   unfolding restartAt
@@ -116,7 +116,8 @@ module _ {a b : Set} (r : Twins a b) where
     where
       go : Alike a b → (t : Timing) (x : Answer ℕ) → SameOutcome Twins (restartedBy a h t x) (restartedBy b h t x)
       go q t (accepted d) = reset-to q h d t nothing
-      go q t (refused n) = kept-same Twins r n
+      go q t (refused n) = kept-same Twins r (refused n)
+      go q t (unsound x) = kept-same Twins r (unsound x)
 
 -- a call that leaves the lent list as it was
 listed-same : {o q : Outcome Set Value} (l : List ℕ) → SameOutcome Twins o q → SameOutcome SameLent (with-list l o) (with-list l q)

@@ -8,7 +8,7 @@ use Prim.Native.Nat.{ℕ, _+_, _≤_, _<_, _^_}
 use native.Mathlib.Omega.{arith}
 use lib.ListN.{length, take}
 use Rattle.theory.proofs.Tests.{true-false}
-use Rattle.refusals.specs.Answer.{accepted, valueOr, Outcome, kept}
+use Rattle.refusals.specs.Answer.{Answer, accepted, refused, unsound, isAccepted, valueOr, Outcome, kept}
 use Rattle.refusals.proofs.Times.{timely-value}
 use Rattle.heap.specs.Capacity.{cap}
 use Rattle.word.specs.Rules as Word
@@ -74,13 +74,15 @@ module _ (B : Type 0) (s : Set) (L : Ledger) (fit : Fit s) (low : B → Low L) (
   Lends c o = Follows B (o .state .set) (note c (seen (handed o)) L)
 
   -- a refusal changes nothing
-  no : (c : Call) (l : List ℕ) (n : ℕ) → After c l (kept s n)
+  no : (c : Call) (l : List ℕ) (a : Answer Value) → isAccepted a ≡ false → After c l (kept s a)
   unfolding note
-  no c l n = f
+  no c l (refused n) e = f
+  no c l (unsound x) e = f
+  no c l (accepted v) e = true-false refl e
 
-  no-lent : (c : Call) (l : List ℕ) (n : ℕ) → Lends c (kept (lent s l) n)
+  no-lent : (c : Call) (l : List ℕ) (a : Answer Value) → isAccepted a ≡ false → Lends c (kept (lent s l) a)
   unfolding note
-  no-lent c l n = f
+  no-lent c l = no c l
 
   -- an open set is as the ledger says
   still : LetIn s → L .closed ≡ false

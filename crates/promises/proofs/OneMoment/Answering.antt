@@ -14,7 +14,7 @@ use borrow.Author.Tests.{lt-ltb, le-ltb, le-leb, lt-leb}
 use Rattle.theory.specs.Tests.{bit}
 use Rattle.theory.specs.First.{firstBad}
 use Rattle.theory.proofs.Tests.{true-false, ref-lt, ref-eq, true-ref, false-ref, by-ref}
-use Rattle.refusals.specs.Answer.{Answer, accepted, refused, Outcome, kept}
+use Rattle.refusals.specs.Answer.{Answer, accepted, refused, Outcome, kept, unsound}
 use Rattle.heap.specs.Capacity.{cap}
 use Rattle.heap.specs.Rules.{entryAt}
 use Rattle.heap.specs.Calls.{peekSound}
@@ -33,6 +33,7 @@ use Rattle.timers.specs.declared.Call.the-variants as C
 use Rattle.timers.specs.Values.{Value, nothing, handle, counts, wake, polled, time}
 use Rattle.timers.specs.Calls as Calls
 use Rattle.timers.specs.Calls.{Timing, timingOf, Lent, guarded, opened, alive, liveAt, lent, rang, roomy, ticked, tickedBy, restartedBy, wakeBy, step}
+use Rattle.timers.proofs.Guarding.{sound-none}
 use Rattle.laws.specs.Words.{Fit}
 use Rattle.laws.specs.EntryOf.{entryOf, waiting}
 use Rattle.laws.specs.Rooms.{givenBy, givenOf, isCancelled}
@@ -51,7 +52,7 @@ use Rattle.promises.proofs.Ledger.TracksSteps.{Follows}
 -- a next wake of a set that fits is answered
 pub wake-answered : (s : Set) → Fit s → (l : List ℕ) → step s C.NextWake l .answer ≡ accepted (wake (wakeBy (peekSound (s .heap))))
 unfolding step Calls.nextWakeOf guarded
-wake-answered s f l = rw (sound-tells s (f .sound)) refl
+wake-answered s f l = rw (sound-none s (sound-tells s (f .sound))) refl
 
 module _ (B : Type 0) (s : Set) (L : Ledger) (fit : Fit s) (f : Follows B s L) where
   -- THE TESTS THAT A CALL BEGINS WITH
@@ -59,7 +60,7 @@ module _ (B : Type 0) (s : Set) (L : Ledger) (fit : Fit s) (f : Follows B s L) w
   -- a set that fits passes the first
   passed : {S : Type 0} (k : S) (o : Outcome S Value) → guarded s k o ≡ o
   unfolding guarded
-  passed k o = rw (sound-tells s (fit .sound)) refl
+  passed k o = rw (sound-none s (sound-tells s (fit .sound))) refl
 
   -- an open one passes the second, and a closed one is refused with 2
   let-in : {S : Type 0} (k : S) (o : Outcome S Value) → s .closed ≡ false → guarded s k (opened s k o) .answer ≡ o .answer
@@ -132,15 +133,17 @@ module _ (B : Type 0) (s : Set) (L : Ledger) (fit : Fit s) (f : Follows B s L) w
         rw (ap Word.firedIn (k .word-is) ∙ reported-fired (k .generation) (L .line h .reported), k .agreed)
         (go (L .line h .reported) (tickOf p (t .due) period N))
       where
-        go : (b : Bool) (x : Answer ℕ) → cond b (tickedBy s h t x) (kept s 10) .answer ≡ cond b (ifTimed x (time (t .due))) (refused 10)
+        go : (b : Bool) (x : Answer ℕ) → cond b (tickedBy s h t x) (kept s (refused 10)) .answer ≡ cond b (ifTimed x (time (t .due))) (refused 10)
         go true (accepted d) = refl
         go true (refused n) = refl
+        go true (unsound f) = refl
         go false x = refl
 
     -- an interval reset
     by-restart : (h : Handle) (t : Timing) (x : Answer ℕ) → restartedBy s h t x .answer ≡ ifTimed x nothing
     by-restart h t (accepted d) = refl
     by-restart h t (refused n) = refl
+    by-restart h t (unsound f) = refl
 
     module _ (p : ℕ) (b : p < cap) where
       o : Housed s L

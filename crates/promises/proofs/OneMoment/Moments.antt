@@ -112,7 +112,7 @@ module _ (B : Type 0) (r : Run ours) (g : Good B r) (low : B → Low (r .ledger)
   pub turn-exact : (N : ℕ) (l : List ℕ) → Accepted ours r (C.Turn N) l → Exact L owed N (seen (handed (step s (C.Turn N) l)))
   unfolding step
   turn-exact N l =
-      turn-by (λ o. isAccepted (o .answer) ≡ true → Exact L owed N (seen (handed o))) s l (λ n y. true-false y refl) N
+      turn-by (λ o. isAccepted (o .answer) ≡ true → Exact L owed N (seen (handed o))) s l (λ a r y. true-false y r) N
       (λ a room _.
       let k = drained-rang a N l room in
       let safe : Safe B (drainedOf s) = λ x b w. true-false w (idle-then a x b) in
@@ -123,7 +123,7 @@ module _ (B : Type 0) (r : Run ours) (g : Good B r) (low : B → Low (r .ledger)
   pub advance-exact : B → (N : ℕ) (l : List ℕ) → Accepted ours r (C.Advance N) l → Exact L ready N (seen (handed (step s (C.Advance N) l)))
   unfolding step
   advance-exact b N l =
-      advance-by (λ o. isAccepted (o .answer) ≡ true → Exact L ready N (seen (handed o))) s l (λ n y. true-false y refl) N
+      advance-by (λ o. isAccepted (o .answer) ≡ true → Exact L ready N (seen (handed o))) s l (λ a r y. true-false y r) N
       (λ a room _.
       let k = advanced-rang B s L N l low (now B s L (g .fit) low (g .follows) a) (g .fit .sound) room in
       exact-rang B L L ready N s l (advancedOf s N l) k (λ _ _ _. b) (λ h. refl) (k .sorted (λ _ _ _. b)))
@@ -136,10 +136,10 @@ module _ (B : Type 0) (r : Run ours) (g : Good B r) (low : B → Low (r .ledger)
   list-kept (C.Cancel h) l = (refl, refl)
   list-kept C.Drain l = (refl, refl)
   list-kept (C.Advance N) l =
-      advance-by (λ o. Kept (reportsIn (o .answer)) l (o .state .list)) s l (λ n. (refl, refl)) N
+      advance-by (λ o. Kept (reportsIn (o .answer)) l (o .state .list)) s l (λ a r. (refl, refl)) N
       (λ a room. rest-kept s l (advancedOf s N l) (advanced-rest s N l (g .fit .sound)))
   list-kept (C.Turn N) l =
-      turn-by (λ o. Kept (reportsIn (o .answer)) l (o .state .list)) s l (λ n. (refl, refl)) N
+      turn-by (λ o. Kept (reportsIn (o .answer)) l (o .state .list)) s l (λ a r. (refl, refl)) N
       (λ a room. rest-kept (drainedOf s) l (advancedOf (drainedOf s) N l)
       (advanced-rest (drainedOf s) N l (drained-sound s (g .fit .sound) (a .still-open) (g .fit .words))))
   list-kept C.NextWake l = (refl, refl)

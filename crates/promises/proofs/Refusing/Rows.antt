@@ -14,7 +14,10 @@ use Rattle.theory.specs.Counting.{count}
 use Rattle.theory.proofs.Counting.{count-none, count-zero}
 use Rattle.theory.proofs.First.{none-all, all-none}
 use Rattle.theory.proofs.Tests.{ref-lt, ref-le, ref-eq, true-ref, false-ref, by-ref, is-false, none-some}
-use Rattle.refusals.specs.Answer.{Answer, accepted, refused, Outcome}
+use Rattle.refusals.specs.declared.fault.Fault.{Fault}
+use Rattle.refusals.specs.declared.Refusal.the-variants.{Unsound}
+use Rattle.refusals.specs.Faults.{clear}
+use Rattle.refusals.specs.Answer.{Answer, accepted, refused, Outcome, unsound}
 use Rattle.refusals.specs.Times.{timely}
 use Rattle.heap.specs.Capacity.{cap}
 use Rattle.word.specs.Rules.{firedIn}
@@ -26,21 +29,21 @@ use Rattle.state.specs.declared.Life.the-variants.{Free, Live, Cancelled, Retir
 use Rattle.state.specs.declared.Set.{Set}
 use Rattle.state.specs.declared.Handle.{Handle}
 use Rattle.state.specs.State.{timerAt}
-use Rattle.state.specs.Faults.{soundOf}
+use Rattle.state.specs.Faults.{faultOf, soundOf}
 use Rattle.moves.specs.Rules.{taken, lowestFree}
-use Rattle.timers.specs.Calls.{Value, Lent, Timing, guarded, opened, alive, timingOf, liveAt, addedAt, roomy, ticked, tickedBy, restartedBy}
-use Rattle.promises.specs.Conditions.{unsound, lifeAt, notLive, dead, freeAt, full, short, wordIn, dueIn, notFired, isSkip, zeroPeriod, above, lateSum, tickSum}
+use Rattle.timers.specs.Calls.{Value, Lent, Timing, judged, refusing, guarded, opened, alive, timingOf, liveAt, addedAt, roomy, ticked, tickedBy, restartedBy}
+use Rattle.promises.specs.Conditions.{damaged, lifeAt, notLive, dead, freeAt, full, short, wordIn, dueIn, notFired, isSkip, zeroPeriod, above, lateSum, tickSum}
 use Rattle.promises.specs.Table.{refusalIn}
 
 -- 1: the test of soundness
 pub unsound-row : (s : Set) {S : Type 0} (k : S) (o : Outcome S Value) (rest : Option ℕ) → refusalIn (o .answer) ≡ rest
-    → refusalIn (guarded s k o .answer) ≡ cond (unsound s) (some 1) rest
-unfolding guarded
-unsound-row s k o rest e = go (soundOf s)
+    → refusalIn (guarded s k o .answer) ≡ cond (damaged s) (some 1) rest
+unfolding guarded soundOf
+unsound-row s k o rest e = go (faultOf s)
   where
-    go : (b : Bool) → refusalIn (cond b o (record { state = k; answer = refused 1 }) .answer) ≡ cond (not b) (some 1) rest
-    go true = e
-    go false = refl
+    go : (x : Option Fault) → refusalIn (judged x o (λ y. refusing k (Unsound y)) .answer) ≡ cond (not (clear x)) (some 1) rest
+    go none = e
+    go (some y) = refl
 
 -- 2: the test of the closed mark
 pub closed-row : (s : Set) {S : Type 0} (k : S) (o : Outcome S Value) (rest : Option ℕ) → refusalIn (o .answer) ≡ rest
@@ -125,6 +128,7 @@ tick-row p T period N = go (lateAt T N) p
     as-before : (a : Answer ℕ) (d : ℕ) → refusalIn (earlier a d) ≡ refusalIn a
     as-before (accepted t) d = refl
     as-before (refused n) d = refl
+    as-before (unsound f) d = refl
 
     skip : (z : Bool)
         → refusalIn (cond z (refused 9) (earlier (timely (N + period)) ((N - T) % period)))
@@ -150,6 +154,7 @@ ticked-row s h p period N t e f = rw (e, f) (go (firedIn (t .word)))
     by : (a : Answer ℕ) → refusalIn (tickedBy s h t a .answer) ≡ refusalIn a
     by (accepted d) = refl
     by (refused n) = refl
+    by (unsound f) = refl
 
     go : (b : Bool)
         → refusalIn (cond b (tickedBy s h t (tickOf p (t .due) period N)) (record { state = s; answer = refused 10 }) .answer)
@@ -166,3 +171,4 @@ restarted-row s h period N t = by (restartOf period N) ∙ timely-row (N + perio
     by : (a : Answer ℕ) → refusalIn (restartedBy s h t a .answer) ≡ refusalIn a
     by (accepted d) = refl
     by (refused n) = refl
+    by (unsound f) = refl

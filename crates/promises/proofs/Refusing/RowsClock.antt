@@ -5,7 +5,7 @@ use mathlib.Core.Bool.{Bool, true, false, cond}
 use mathlib.Core.Option.{none, some}
 use Prim.Native.Nat.{ℕ, _+_, _-_}
 use lib.Dec.{ltb}
-use Rattle.refusals.specs.Answer.{Answer, accepted, refused}
+use Rattle.refusals.specs.Answer.{Answer, accepted, refused, unsound}
 use Rattle.refusals.specs.Times.{timely}
 use Rattle.clock.specs.declared.Clock.{Clock}
 use Rattle.clock.specs.declared.Clock.the-variants.{Running, Paused}
@@ -28,6 +28,7 @@ reading-row base start raw = go (ltb raw start)
 paused-by : (c : Clock) (a : Answer ℕ) → refusalIn (pausedAt c a .answer) ≡ refusalIn a
 paused-by c (accepted t) = refl
 paused-by c (refused n) = refl
+paused-by c (unsound f) = refl
 
 -- a pause of a running clock, as a reading
 pub pause-row : (base start raw : ℕ)

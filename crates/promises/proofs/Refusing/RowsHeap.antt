@@ -8,8 +8,9 @@ use native.Mathlib.Omega.{arith}
 use lib.Dec.{ltb, eqb}
 use borrow.Author.Tests.{lt-ltb}
 use Rattle.theory.proofs.Tests.{ref-lt, ref-eq, true-ref, false-ref, by-ref, cond-ref}
-use Rattle.refusals.specs.declared.Refusal.the-variants.{Unsound}
-use Rattle.refusals.specs.Answer.{accepted, refuse, Outcome, kept}
+use Rattle.refusals.specs.declared.fault.Fault.{Fault}
+use Rattle.refusals.specs.Faults.{clear}
+use Rattle.refusals.specs.Answer.{accepted, refused, Outcome, kept}
 use Rattle.heap.specs.Capacity.{cap}
 use Rattle.heap.specs.declared.Slot.{Slot}
 use Rattle.heap.specs.declared.Place.{Place}
@@ -17,8 +18,8 @@ use Rattle.heap.specs.declared.SlotState.{SlotState}
 use Rattle.heap.specs.declared.SlotState.the-variants.{Full, Empty}
 use Rattle.heap.specs.declared.Heap.{Heap}
 use Rattle.heap.specs.Rules.{entryAt, stateAt, slotAt, pushedOf}
-use Rattle.heap.specs.Faults.{consistentOf}
-use Rattle.heap.specs.Calls.{Off, guardOf, guardedBy, guarded, pushGives, pushSound, removeBy, removeSound, popSound, peekSound, peekBy, peekOf}
+use Rattle.heap.specs.Faults.{faultOf, consistentOf}
+use Rattle.heap.specs.Calls.{Off, passing, guardOf, guardedBy, guarded, pushGives, pushSound, removeBy, removeSound, popSound, peekSound, peekBy, peekOf}
 use Rattle.heap.proofs.Testing.Test.{tested-len, tested-forth}
 use Rattle.promises.specs.Conditions.{inconsistent, holdsAll, isEmpty, vacant}
 use Rattle.promises.specs.Table.{refusalIn}
@@ -28,23 +29,23 @@ module _ (h : Heap) where
   -- 1: the test of the heap; what comes after may take it that the heap passed
   pub inconsistent-row : {A : Type 0} (o : Outcome Heap A) (rest : Option ℕ) → (consistentOf h ≡ true → refusalIn (o .answer) ≡ rest)
       → refusalIn (guarded h o .answer) ≡ cond (inconsistent h) (some 1) rest
-  unfolding guardOf
-  inconsistent-row o rest more = go (consistentOf h) refl
+  unfolding guardOf consistentOf
+  inconsistent-row o rest more = go (faultOf h) more
     where
-      go : (b : Bool) → consistentOf h ≡ b → refusalIn (guardedBy h o (cond b (accepted tt) (refuse Unsound)) .answer) ≡ cond (not b) (some 1) rest
-      go true e = more e
-      go false e = refl
+      go : (x : Option Fault) → (clear x ≡ true → refusalIn (o .answer) ≡ rest) → refusalIn (guardedBy h o (passing x) .answer) ≡ cond (not (clear x)) (some 1) rest
+      go none m = m refl
+      go (some f) m = refl
 
   -- the same of a peek, which hands no heap back and has no other row
   pub peek-row : refusalIn (peekOf h) ≡ cond (inconsistent h) (some 1) none
-  unfolding guardOf peekSound
-  peek-row = go (consistentOf h) (eqb (h .len) 0)
+  unfolding guardOf consistentOf peekSound
+  peek-row = go (faultOf h) (eqb (h .len) 0)
     where
-      go : (b e : Bool)
-          → refusalIn (peekBy (cond e (accepted none) (accepted (some (entryAt h 0)))) (cond b (accepted tt) (refuse Unsound))) ≡ cond (not b) (some 1) none
-      go true true = refl
-      go true false = refl
-      go false e = refl
+      go : (x : Option Fault) (e : Bool)
+          → refusalIn (peekBy (cond e (accepted none) (accepted (some (entryAt h 0)))) (passing x)) ≡ cond (not (clear x)) (some 1) none
+      go none true = refl
+      go none false = refl
+      go (some f) e = refl
 
   -- 4: a heap that passed has no more entries than the capacity, so it has room but where it holds as many
   pub push-row : (at g : ℕ) (place : Place) → consistentOf h ≡ true → refusalIn (pushSound h at g place .answer) ≡ cond (holdsAll h) (some 4) none
@@ -59,7 +60,7 @@ module _ (h : Heap) where
           by-ref (ref-lt (h .len) cap) (λ l. false-ref (ref-eq (h .len) cap) (λ q. omega arith) ∙ sym (ap not (true-ref (ref-lt (h .len) cap) l)))
           (λ l. true-ref (ref-eq (h .len) cap) (omega (arith, most)) ∙ sym (ap not (false-ref (ref-lt (h .len) cap) l)))
 
-      go : (b : Bool) → refusalIn (cond b (pushGives (h .free) (pushedOf h at g place)) (kept h 4) .answer) ≡ cond (not b) (some 4) none
+      go : (b : Bool) → refusalIn (cond b (pushGives (h .free) (pushedOf h at g place)) (kept h (refused 4)) .answer) ≡ cond (not b) (some 4) none
       go true = refl
       go false = refl
 
@@ -68,7 +69,7 @@ module _ (h : Heap) where
   unfolding removeSound
   remove-row s = rw (at-least (s .0) (h .made)) (go (ltb (s .0) (h .made)) (stateAt h (s .0)))
     where
-      go : (b : Bool) (x : SlotState) → refusalIn (cond b (removeBy h s x) (kept h 11) .answer) ≡ cond (not b || isEmpty x) (some 11) none
+      go : (b : Bool) (x : SlotState) → refusalIn (cond b (removeBy h s x) (kept h (refused 11)) .answer) ≡ cond (not b || isEmpty x) (some 11) none
       go true (Full p) = refl
       go true (Empty n) = refl
       go false x = refl

@@ -16,7 +16,9 @@ use Rattle.theory.proofs.Counting.{count-none, count-zero}
 use Rattle.theory.proofs.Least.{Found, Told, least-told}
 use Rattle.theory.proofs.Tests.{ref-lt, ref-le, true-ref, false-ref, by-ref, ref-true, is-false, none-some, true-false, and-left, and-right}
 use Rattle.refusals.specs.declared.Refusal.the-variants.{Unsound, Closed}
-use Rattle.refusals.specs.Answer.{Answer, accepted, refused, refuse, Outcome, kept}
+use Rattle.refusals.specs.declared.fault.Fault.{Fault}
+use Rattle.refusals.specs.Faults.{clear}
+use Rattle.refusals.specs.Answer.{Answer, accepted, refused, refuse, Outcome, kept, unsound}
 use Rattle.refusals.specs.Times.{signed}
 use Rattle.refusals.proofs.Differences.{minus-above, minus-below, above-fits, above-unfit, below-fits, below-unfit}
 use Rattle.heap.specs.Capacity.{cap}
@@ -26,11 +28,12 @@ use Rattle.state.specs.declared.Life.the-variants.{Free, Live, Cancelled, Retir
 use Rattle.state.specs.declared.Set.{Set}
 use Rattle.state.specs.declared.Handle.{Handle}
 use Rattle.state.specs.State.{timerAt}
-use Rattle.state.specs.Faults.{soundOf}
-use Rattle.timers.specs.Calls.{Value, nothing, Timing, gives, liveAt, alive, living, doorOf}
+use Rattle.state.specs.Faults.{faultOf, soundOf}
+use Rattle.timers.specs.Calls.{judged, Value, nothing, Timing, gives, liveAt, alive, living, doorOf}
 use Rattle.timers.specs.Left.{leftAt, timeLeftBy, timeLeftOf, pendingIn, pendingAt, orNone, leastBy, leastLeftOf, soonestOf}
 use Rattle.timers.proofs.Shortest.{least-by-due}
-use Rattle.promises.specs.Conditions.{unsound, lifeAt, notLive, dead, wordIn, dueIn, farAhead, farBehind, far, unfiredAt, anywhere, leastFar}
+use Rattle.promises.specs.Conditions as Conditions
+use Rattle.promises.specs.Conditions.{lifeAt, notLive, dead, wordIn, dueIn, farAhead, farBehind, far, unfiredAt, anywhere, leastFar}
 use Rattle.promises.specs.Table.{refusalIn}
 use Rattle.promises.proofs.Refusing.Rows.{dead-row}
 
@@ -54,37 +57,41 @@ far-row d N = by-ref (ref-le N d) ahead behind
 
 -- 1 and 2: the tests of a set
 tested-row : (s : Set) {A : Type 0} (a : Answer A) (rest : Option ℕ) → refusalIn a ≡ rest
-    → refusalIn (cond (soundOf s) (cond (s .closed) (refuse Closed) a) (refuse Unsound)) ≡ cond (unsound s) (some 1) (cond (s .closed) (some 2) rest)
-tested-row s {A} a rest e = go (soundOf s) (s .closed)
+    → refusalIn (judged (faultOf s) (cond (s .closed) (refuse Closed) a) (λ y. refuse (Unsound y)))
+    ≡ cond (Conditions.damaged s) (some 1) (cond (s .closed) (some 2) rest)
+unfolding soundOf
+tested-row s {A} a rest e = go (faultOf s) (s .closed)
   where
-    go : (b c : Bool) → refusalIn {A = A} (cond b (cond c (refuse Closed) a) (refuse Unsound)) ≡ cond (not b) (some 1) (cond c (some 2) rest)
-    go true true = refl
-    go true false = e
-    go false c = refl
+    go : (x : Option Fault) (c : Bool) → refusalIn {A = A} (judged x (cond c (refuse Closed) a) (λ y. refuse (Unsound y))) ≡ cond (not (clear x)) (some 1) (cond c (some 2) rest)
+    go none true = refl
+    go none false = e
+    go (some y) c = refl
 
 -- the time left: 1, 2, 3 and 6
 pub time-left-row : (s : Set) (h : Handle) (N : ℕ)
     → refusalIn (timeLeftOf s h N)
-    ≡ cond (unsound s) (some 1) (cond (s .closed) (some 2) (cond (dead s h) (some 3) (cond (far (dueIn (lifeAt s h)) N) (some 6) none)))
+    ≡ cond (Conditions.damaged s) (some 1) (cond (s .closed) (some 2) (cond (dead s h) (some 3) (cond (far (dueIn (lifeAt s h)) N) (some 6) none)))
 unfolding timeLeftOf doorOf
-time-left-row s h N = split (soundOf s) (s .closed) ∙ tested-row s (timeLeftBy N (living (liveAt s h))) _ (same (liveAt s h) ∙ dead-row s h outcome _ row)
+time-left-row s h N = split (faultOf s) (s .closed) ∙ tested-row s (timeLeftBy N (living (liveAt s h))) _ (same (liveAt s h) ∙ dead-row s h outcome _ row)
   where
     -- the tests come first
-    split : (b c : Bool)
-        → refusalIn (timeLeftBy N (cond b (cond c (refuse Closed) (living (liveAt s h))) (refuse Unsound)))
-        ≡ refusalIn (cond b (cond c (refuse Closed) (timeLeftBy N (living (liveAt s h)))) (refuse Unsound))
-    split true true = refl
-    split true false = refl
-    split false c = refl
+    split : (x : Option Fault) (c : Bool)
+        → refusalIn (timeLeftBy N (judged x (cond c (refuse Closed) (living (liveAt s h))) (λ y. refuse (Unsound y))))
+        ≡ refusalIn (judged x (cond c (refuse Closed) (timeLeftBy N (living (liveAt s h)))) (λ y. refuse (Unsound y)))
+    split none true = refl
+    split none false = refl
+    split (some y) c = refl
 
     -- the answer as a call's, so that the row of a dead handle serves both
     call : Answer ℤ → Outcome Set Value
     call (accepted z) = gives s nothing
-    call (refused n) = kept s n
+    call (refused n) = kept s (refused n)
+    call (unsound x) = kept s (unsound x)
 
     call-same : (a : Answer ℤ) → refusalIn (call a .answer) ≡ refusalIn a
     call-same (accepted z) = refl
     call-same (refused n) = refl
+    call-same (unsound x) = refl
 
     outcome : Timing → Outcome Set Value
     outcome t = call (signed (leftAt N (t .due)))
@@ -187,9 +194,10 @@ module _ (s : Set) (N : ℕ) where
       as-some : (a : Answer ℤ) → refusalIn (orNone a) ≡ refusalIn a
       as-some (accepted z) = refl
       as-some (refused n) = refl
+      as-some (unsound x) = refl
 
 -- the least time left: 1, 2 and 6
-pub least-left-row : (s : Set) (N : ℕ) → refusalIn (leastLeftOf s N) ≡ cond (unsound s) (some 1) (cond (s .closed) (some 2) (cond (leastFar s N) (some 6) none))
+pub least-left-row : (s : Set) (N : ℕ) → refusalIn (leastLeftOf s N) ≡ cond (Conditions.damaged s) (some 1) (cond (s .closed) (some 2) (cond (leastFar s N) (some 6) none))
 unfolding leastLeftOf soonestOf
 least-left-row s N =
     tested-row s (leastBy (leastBelow ltZ (λ p. through (leftAt N) (pendingAt s p)) cap)) (cond (leastFar s N) (some 6) none)

@@ -1,12 +1,13 @@
 -- Only an accepted advance or turn is answered with counts, and after it the next wake is asked.
 -- Assumes nothing.
-use mathlib.Core.Path.{_≡_, refl, ap, _∙_}
+use mathlib.Core.Path.{_≡_, refl, sym, ap, _∙_}
 use mathlib.Core.Option.{none}
 use mathlib.Core.List.{[], _∷_}
 use borrow.Author.Needs.{needs}
 use types.Run.{OneOf, miss}
 use denote.Enum.Declared.{tagOf}
 use Rattle.refusals.specs.Answer.{Outcome}
+use Rattle.refusals.proofs.Refusing.{by-number}
 use Rattle.state.specs.declared.Set.{Set}
 use Rattle.timers.proofs.Reply.{the-type}
 use Rattle.timers.specs.declared.Reply.{Reply}
@@ -30,7 +31,7 @@ not-asked s (R.WakeAt t) k = refl
 not-asked s R.NoWake k = refl
 not-asked s (R.Found p) k = refl
 not-asked s (R.Ticked t) k = refl
-not-asked s (R.Refused r) k = refl
+not-asked s (R.Refused r) k = sym (by-number (wakeAfter s) (λ n. none) (λ n. refl) (λ x. refl) r)
 
 returns-2 : tie.Need-returns-2
 returns-2 c = not-asked (c .before .args .s) (c .before .args .reply) (c .match .keys2)

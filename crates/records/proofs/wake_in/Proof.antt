@@ -1,11 +1,12 @@
 -- Only a reply to a next wake names one.
 -- Assumes nothing.
-use mathlib.Core.Path.{_≡_, refl}
+use mathlib.Core.Path.{_≡_, refl, sym}
 use mathlib.Core.Option.{none}
 use mathlib.Core.List.{[], _∷_}
 use borrow.Author.Needs.{needs}
 use types.Run.{OneOf, miss}
 use denote.Enum.Declared.{tagOf}
+use Rattle.refusals.proofs.Refusing.{by-number}
 use Rattle.timers.proofs.Reply.{the-type}
 use Rattle.timers.specs.declared.Reply.{Reply}
 use Rattle.timers.specs.declared.Reply.the-variants as R
@@ -26,7 +27,7 @@ no-wake (R.WakeAt t) k = absurd (miss (0 ∷ 1 ∷ 2 ∷ 4 ∷ 5 ∷ 6 ∷ 7 ∷
 no-wake R.NoWake k = refl
 no-wake (R.Found p) k = refl
 no-wake (R.Ticked t) k = refl
-no-wake (R.Refused r) k = refl
+no-wake (R.Refused r) k = sym (by-number wakeIn (λ n. none) (λ n. refl) (λ x. refl) r)
 
 returns-2 : tie.Need-returns-2
 returns-2 c = no-wake (c .before .args .reply) (c .match .keys2)

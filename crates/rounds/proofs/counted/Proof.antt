@@ -1,12 +1,13 @@
 -- Only one kind of reply has counts; in the arm of all the others none has.
 -- Assumes nothing.
-use mathlib.Core.Path.{_≡_, refl}
+use mathlib.Core.Path.{_≡_, refl, sym}
 use mathlib.Core.Logic.{⊎-elim}
 use mathlib.Core.List.{[], _∷_}
 use native.Mathlib.Omega.{arith}
 use borrow.Author.Needs.{needs}
 use types.Run.{OneOf}
 use denote.Enum.Declared.{tagOf}
+use Rattle.refusals.proofs.Refusing.{by-number}
 use Rattle.timers.proofs.Reply.{the-type}
 use Rattle.timers.specs.declared.Reply.{Reply}
 use Rattle.timers.specs.declared.Reply.the-variants as R
@@ -29,7 +30,7 @@ none (R.WakeAt t) k = refl
 none R.NoWake k = refl
 none (R.Found p) k = refl
 none (R.Ticked t) k = refl
-none (R.Refused r) k = refl
+none (R.Refused r) k = sym (by-number countsIn (λ n. countsOf 0 0) (λ n. refl) (λ x. refl) r)
 
 returns-2 : tie.Need-returns-2
 returns-2 c = none (c .before .args .reply) (c .match .keys2)

@@ -1,12 +1,15 @@
 -- A set that is let through has a sound heap, and the wake is its head's deadline; a closed set is asked as any other.
 -- Assumes nothing.
-use mathlib.Core.Path.{_≡_, sym, ap, _∙_}
+use mathlib.Core.Path.{_≡_, refl, sym, ap, _∙_}
 use mathlib.Core.Bool.{true}
-use mathlib.Core.Option.{Option}
+use mathlib.Core.Option.{Option, none}
+use Prim.Native.Nat.{ℕ}
 use borrow.Author.Needs.{needs}
 use lib.ListN.{length}
 use Rattle.theory.proofs.Stores.{unmapped}
-use Rattle.refusals.specs.Answer.{Answer}
+use Rattle.refusals.specs.declared.Refusal.{Refusal}
+use Rattle.refusals.specs.Answer.{Answer, refuse}
+use Rattle.refusals.proofs.Refusing.{any-refusal}
 use Rattle.heap.specs.Capacity.{cap}
 use Rattle.heap.specs.declared.Entry.{Entry}
 use Rattle.heap.specs.Calls.{peekSound}
@@ -51,10 +54,15 @@ returns-3 c =
     wakes s _ (passed s (rw (c .before .before .before .before .enum-told .given .1) at (c .before .before .before .before .before .before .guarded .ensures)))
     (rw (c .enum-told2 .given .1) at (c .before .before .peek-sound .ensures))
 
+-- what is refused has no head
+no-wake : (why : Refusal) → none ≡ wakeBy (refuse why)
+no-wake why = any-refusal (λ (a : Answer (Option Entry)). none) wakeBy (λ n. refl) (λ x. refl) why
+
 returns-4 : tie.Need-returns-4
 returns-4 c =
     let s = c .before .before .before .before .before .before .before .args .s in
-    wakes s _ (passed s (rw (c .before .before .before .before .enum-told .given .1) at (c .before .before .before .before .before .before .guarded .ensures)))
+    ap (λ (o : Option ℕ). gives s (wake o)) (no-wake (c .enum-told3 .given .0 .0))
+    ∙ wakes s _ (passed s (rw (c .before .before .before .before .enum-told .given .1) at (c .before .before .before .before .before .before .guarded .ensures)))
     (rw (c .enum-told3 .given .1) at (c .before .before .peek-sound .ensures))
 
 pub next-wake-spec : {M : Type 1} → statement M

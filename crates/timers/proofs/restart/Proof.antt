@@ -4,7 +4,7 @@ use mathlib.Core.Path.{sym, ap, _∙_}
 use borrow.Author.Needs.{needs}
 use Rattle.state.specs.declared.Set.{Set}
 use Rattle.timers.specs.Calls.{restartAt, gives, nothing}
-use Rattle.timers.proofs.Alive.{at-door, as-restarted, live-place}
+use Rattle.timers.proofs.Alive.{at-door, as-restarted, live-place, restart-refused}
 use Rattle.timers.proofs.restart.Statement.{statement}
 use Rattle.timers.proofs.restart.Tie as tie
 
@@ -35,7 +35,8 @@ returns-3 c =
     c .refused2 .ensures
     ∙ sym
     (at-door _ _ _ _ (w .word .given .1) (w .before .before .entered .ensures)
-    ∙ as-restarted (a .s) (a .handle) (a .period) (a .reading) _ (c .before .before .why2 .given .1) (c .before .before .before .before .restarted .ensures))
+    ∙ as-restarted (a .s) (a .handle) (a .period) (a .reading) _ (c .before .before .why2 .given .1) (c .before .before .before .before .restarted .ensures)
+    ∙ restart-refused _ _ _ (c .before .before .why2 .given .0 .0))
 
 pub restart-spec : {M : Type 1} → statement M
 restart-spec =

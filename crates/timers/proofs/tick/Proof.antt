@@ -5,7 +5,7 @@ use borrow.Author.Needs.{needs}
 use borrow.Author.Tests.{not-true, not-false}
 use Rattle.state.specs.declared.Set.{Set}
 use Rattle.timers.specs.Calls.{tickAt, gives, time}
-use Rattle.timers.proofs.Alive.{at-door, as-timed, live-place}
+use Rattle.timers.proofs.Alive.{at-door, as-timed, live-place, tick-refused}
 use Rattle.timers.proofs.tick.Statement.{statement}
 use Rattle.timers.proofs.tick.Tie as tie
 
@@ -51,7 +51,8 @@ returns-4 c =
     ∙ sym
     (at-door _ _ _ _ (w .word .given .1) (w .before .before .entered .ensures)
     ∙ as-timed (a .s) (a .handle) (a .policy) (a .period) (a .reading) (record { word = v .0; due = v .1 .0 })
-    (not-false _ (d .before .if1 .left)) (d .before .before .fired .ensures) (c .before .before .why2 .given .1) (d .next-deadline .ensures))
+    (not-false _ (d .before .if1 .left)) (d .before .before .fired .ensures) (c .before .before .why2 .given .1) (d .next-deadline .ensures)
+    ∙ tick-refused _ _ _ (c .before .before .why2 .given .0 .0))
 
 pub tick-spec : {M : Type 1} → statement M
 tick-spec =

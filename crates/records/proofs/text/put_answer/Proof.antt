@@ -2,6 +2,7 @@
 -- Assumes nothing.
 use mathlib.Core.Path.{_≡_, refl, sym, ap, _∙_}
 use mathlib.Core.Logic.{by-cases}
+use mathlib.Core.Option.{Option}
 use mathlib.Core.List.{List, _++_}
 use Prim.Native.Nat.{ℕ, min}
 use native.Mathlib.Omega.{arith}
@@ -9,6 +10,10 @@ use native.Mathlib.Decide.{decLt}
 use borrow.Author.Needs.{needs}
 use lib.ListN.{length, take}
 use lib.Seq.{take-all}
+use Rattle.refusals.specs.declared.Refusal.{Refusal}
+use Rattle.refusals.specs.Numbers.{numberOf}
+use Rattle.refusals.specs.Answer.{refuse}
+use Rattle.refusals.proofs.Refusing.{by-number}
 use Rattle.records.specs.Answers.{saidWake}
 use Rattle.records.specs.Lines.{text, decimal, spaced, reportText, valuesText, answerText}
 use Rattle.records.proofs.Putting.{puts-then, puts-same}
@@ -20,6 +25,11 @@ take-least : (n k : ℕ) (l : List ℕ) → k ≡ min n (length l) → take k l 
 take-least n k l e =
     by-cases (decLt n (length l)) (λ h. let q : k ≡ n = omega arith in ap (λ (i : ℕ). take i l) q)
     (λ h. take-all k l (omega arith) ∙ sym (take-all n l (omega arith)))
+
+-- a refusal is its number
+refusal-text : (w : Option ℕ) (l : List ℕ) (r : Refusal) → spaced (decimal (numberOf r)) ≡ answerText (refuse r) w l
+unfolding answerText
+refusal-text w l r = sym (by-number (λ a. answerText a w l) (λ n. spaced (decimal n)) (λ n. refl) (λ x. refl) r)
 
 returns : tie.Need-returns
 unfolding answerText valuesText
@@ -92,8 +102,11 @@ returns-8 c =
     let p = c .before .before in
     let q = c .before .before .before in
     let r = c .before .before .before .before .before .before in
+    let a = r .before .before .before .before .args in
     rw (r .reply6 .given .1)
-    (puts-same (p .put-number6 .ensures) (ap (λ (n : ℕ). spaced (decimal n)) (q .number .ensures)) (omega arith))
+    (puts-same (p .put-number6 .ensures)
+    (ap (λ (n : ℕ). spaced (decimal n)) (q .number .ensures) ∙ refusal-text (saidWake (a .wake)) (a .list .now) (r .reply6 .given .0 .0))
+    (omega arith))
 
 pub put-answer-spec : {M : Type 1} → statement M
 put-answer-spec =

@@ -1,12 +1,14 @@
 -- The operation or a `?`, what was answered, and the newline, one behind the other.
 -- Assumes nothing.
-use mathlib.Core.Path.{refl, ap}
+use mathlib.Core.Path.{refl, ap, _∙_}
 use mathlib.Core.List.{_++_}
 use Prim.Native.Nat.{ℕ}
 use native.Mathlib.Omega.{arith}
 use borrow.Author.Needs.{needs}
 use mir.Syntax.{w64}
 use mir.Val.{Fits}
+use Rattle.refusals.specs.Answer.{Nothing}
+use Rattle.refusals.proofs.Refusing.{number-of}
 use Rattle.records.specs.Lines.{text, decimal, spaced, lineOf}
 use Rattle.records.proofs.Decimal.{digits-of-64}
 use Rattle.records.proofs.Putting.{puts-then, puts-same}
@@ -27,7 +29,8 @@ returns c =
     let f = e .before .before .before .before .before in
     rw (f .before .before .before .line .given .1)
     (puts-same (puts-then (f .put .ensures) (puts-then (e .put-number .ensures) (d .put2 .ensures)))
-    (ap (λ (n : ℕ). text "?" ++ (spaced (decimal n) ++ text "\n")) (e .before .number .ensures)) (omega arith))
+    (ap (λ (n : ℕ). text "?" ++ (spaced (decimal n) ++ text "\n"))
+    (e .before .number .ensures ∙ number-of Nothing (f .before .before .before .line .given .0 .0))) (omega arith))
 
 returns-2 : tie.Need-returns-2
 unfolding lineOf

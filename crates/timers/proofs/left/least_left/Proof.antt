@@ -13,7 +13,7 @@ use Rattle.timers.specs.Calls.{saidGuard}
 use Rattle.timers.specs.Left.{leftAt, orNone, leastBy, leastLeftOf, saidEarliest}
 use Rattle.timers.specs.declared.left.Earliest.{Earliest}
 use Rattle.timers.proofs.Guarding.{passed-both}
-use Rattle.timers.proofs.Shortest.{least-shut, least-open}
+use Rattle.timers.proofs.Shortest.{least-shut, least-open, least-refused}
 use Rattle.timers.proofs.left.least_left.Statement.{statement}
 use Rattle.timers.proofs.left.least_left.Tie as tie
 
@@ -53,7 +53,9 @@ returns-3 c =
     ∙ sym (differed (c .before .before .before) ∙ ap (λ (l : Left). orNone (saidLeft l)) (c .before .left .given .1))
 
 returns-4 : tie.Need-returns-4
-returns-4 c = sym (differed (c .before .before .before) ∙ ap (λ (l : Left). orNone (saidLeft l)) (c .before .why2 .given .1))
+returns-4 c =
+    least-refused (c .before .why2 .given .0 .0)
+    ∙ sym (differed (c .before .before .before) ∙ ap (λ (l : Left). orNone (saidLeft l)) (c .before .why2 .given .1))
 
 pub least-left-spec : {M : Type 1} → statement M
 least-left-spec =

@@ -4,6 +4,7 @@ use mathlib.Core.Path.{sym, ap, _∙_}
 use borrow.Author.Needs.{needs}
 use Rattle.timers.specs.Calls.{saidDoor}
 use Rattle.timers.specs.Left.{timeLeftBy, timeLeftOf}
+use Rattle.timers.proofs.Shortest.{left-refused}
 use Rattle.timers.proofs.left.time_left.Statement.{statement}
 use Rattle.timers.proofs.left.time_left.Tie as tie
 
@@ -11,7 +12,8 @@ returns : tie.Need-returns
 unfolding timeLeftOf
 returns c =
     let n = c .before .before .before in
-    ap (timeLeftBy (n .before .args .reading)) (sym (ap saidDoor (c .before .why .given .1)) ∙ n .entered .ensures)
+    left-refused (n .before .args .reading) (c .before .why .given .0 .0)
+    ∙ ap (timeLeftBy (n .before .args .reading)) (sym (ap saidDoor (c .before .why .given .1)) ∙ n .entered .ensures)
 
 returns-2 : tie.Need-returns-2
 unfolding timeLeftOf
