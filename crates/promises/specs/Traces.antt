@@ -2,10 +2,12 @@
 -- rules by hand; specs/Tracing.antt says how one is read. The last line of a trace: whether it is closed, the least deadline owed, and
 -- the next wake.
 -- Assumes nothing.
+use Prim.Native.Nat.{_-_}
 use mathlib.Core.Bool.{true, false}
 use mathlib.Core.Option.{none, some}
 use mathlib.Core.List.{List, [], _∷_}
 use Rattle.refusals.specs.Answer.{accepted, refused}
+use Rattle.heap.specs.Capacity.{cap}
 use Rattle.interval.specs.declared.Policy.the-variants.{Burst, Delay, Skip}
 use Rattle.timers.specs.declared.Call.the-variants as C
 use Rattle.timers.specs.Values.{nothing, handle, counts, wake, polled, time}
@@ -273,11 +275,11 @@ abbrev pub refusals-between : Trace
 refusals-between =
     trace 18
     (C.Add 10 answers accepted (handle (0 with-use 0))
-    ∷ C.Turn 10 answers refused 5 lending 63
+    ∷ C.Turn 10 answers refused 5 lending (cap - 1)
     ∷ C.Advance 10 answers refused 5 lending 0
     ∷ C.Reset (1 with-use 0) 5 answers refused 3
     ∷ C.Cancel (0 with-use 1) answers refused 3
-    ∷ C.Poll (64 with-use 0) answers refused 3
+    ∷ C.Poll (cap with-use 0) answers refused 3
     ∷ C.Restart (1 with-use 0) 5 5 answers refused 3
     ∷ C.Tick (0 with-use 1) Burst 5 5 answers refused 3
     ∷ [])
@@ -292,7 +294,7 @@ abbrev pub refused-then-turn : Trace
 refused-then-turn =
     trace 19
     (C.Add 10 answers accepted (handle (0 with-use 0))
-    ∷ C.Turn 10 answers refused 5 lending 63
+    ∷ C.Turn 10 answers refused 5 lending (cap - 1)
     ∷ C.Turn 10 answers accepted (counts 1 1) reporting (0 with-use 0 ∷ [])
     ∷ [])
     (not-owed (0 with-use 0) (record { live = true; due = 10; reported = true; drained = true; resets = 0; leaving = false }) ∷ [])

@@ -89,7 +89,7 @@ pub line-wake : lineOf (made 6 (accepted (wake (some 18446744073709551615))) non
 unfolding lineOf answerText valuesText decimal
 line-wake = refl
 
-pub line-advance : lineOf (made 4 (accepted (counts 1 2)) (some 1000)) (0xffff_ffff_0000_003f ∷ []) ≡ text "4 0 1 63:4294967295 w 1000\n"
+pub line-advance : lineOf (made 4 (accepted (counts 1 2)) (some 1000)) (0xffff_ffff_0000_ffff ∷ []) ≡ text "4 0 1 65535:4294967295 w 1000\n"
 unfolding lineOf answerText valuesText decimal
 line-advance = refl
 
