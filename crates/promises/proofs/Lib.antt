@@ -5,6 +5,7 @@ pub mod OneMoment
 pub mod ByClause
 pub mod Table
 pub mod FaultTold
+pub mod Untested
 pub mod Bench
 pub mod Agreement
 pub mod Useless

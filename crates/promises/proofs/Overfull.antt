@@ -23,7 +23,7 @@ use Rattle.timers.specs.declared.Call.the-variants as C
 use Rattle.timers.specs.Values.{Value, handleIn}
 use Rattle.promises.specs.Bench.{_with-use_}
 use Rattle.promises.specs.Turns.{Engine, Ledger, Run, begun, added, note, takenBy, takenIn, addedAt, Answers, whileOpen, onceClosed, next, from, run, allAsked, Meets, every}
-use Rattle.promises.specs.Engine.{ours}
+use Rattle.promises.specs.Untested.{untested}
 use Rattle.promises.proofs.Meeting.{from-append}
 use Rattle.promises.specs.Useless.{onePlaceMore, overfull}
 
@@ -115,4 +115,4 @@ never (refused n) e = let z : _≡_ {A = ℕ} 1 0 = ap (λ x. bit (isAccepted x)
 never (unsound f) e = let z : _≡_ {A = ℕ} 1 0 = ap (λ x. bit (isAccepted x)) e in absurd (omega arith)
 
 pub overfull-fails : Meets overfull every → ⊥
-overfull-fails = boundless-fails overfull (λ s l. never (ours .step s (C.Add 10) l .answer))
+overfull-fails = boundless-fails overfull (λ s l. never (untested .step s (C.Add 10) l .answer))

@@ -17,10 +17,11 @@ use Rattle.heap.specs.Rules.{items}
 use Rattle.heap.specs.Calls.{Off, freshOf, pushOf, removeOf, popOf}
 use Rattle.word.specs.Rules.{resetOf}
 use Rattle.state.specs.declared.Handle.{Handle}
-use Rattle.state.specs.State as Set
+use Rattle.state.specs.declared.Set.{Set}
+use Rattle.state.specs.State as State
 use Rattle.timers.specs.declared.Call.{Call}
 use Rattle.timers.specs.declared.Call.the-variants as C
-use Rattle.timers.specs.Calls.{Value, nothing, handle, counts, wake, polled, time, Lent, lent, step}
+use Rattle.timers.specs.Calls.{Value, nothing, handle, counts, wake, polled, time, Lent, lent}
 use Rattle.interval.specs.declared.Policy.{Policy}
 use Rattle.interval.specs.declared.Policy.the-variants.{Burst, Delay, Skip}
 use Rattle.interval.specs.Rules.{tickOf}
@@ -127,28 +128,32 @@ code (accepted v) = valueCode v
 code (refused n) = 7 ∷ n ∷ []
 code (unsound f) = 8 ∷ kindOf f ∷ whereOf f ∷ []
 
--- whether the calls answer so, one after the other
-abbrev pub answered : Lent → List Call → List (Answer Value) → Bool
-answered s [] [] = true
-answered s [] (a ∷ rest) = false
-answered s (c ∷ cs) [] = false
-answered s (c ∷ cs) (a ∷ rest) =
-    let o = step (s .set) c (s .list) in sameNumbers (code (o .answer)) (code a) && answered (o .state) cs rest
+-- a way to make a call; that of the rules is `step`
+abbrev pub Way : Type 0
+Way = Set → Call → List ℕ → Outcome Lent Value
+
+-- whether the calls, made in this way, answer so, one after the other
+abbrev pub answered : Way → Lent → List Call → List (Answer Value) → Bool
+answered way s [] [] = true
+answered way s [] (a ∷ rest) = false
+answered way s (c ∷ cs) [] = false
+answered way s (c ∷ cs) (a ∷ rest) =
+    let o = way (s .set) c (s .list) in sameNumbers (code (o .answer)) (code a) && answered way (o .state) cs rest
 
 -- a timer's handle
 abbrev pub _with-use_ : ℕ → ℕ → Handle
 p with-use u = record { place = record { 0 = p }; uses = u }
 
-abbrev pub right : Case → Bool
-right (word w v) = eqb (resetOf w) v
-right (tick p T period N d) = answers (tickOf p T period N) d
-right (set cs answers) = answered (lent Set.freshOf (replicate cap 0)) cs answers
-right (heap cs es ss n) = ranRight (madeAll (record { heap = freshOf; slots = []; swaps = 0 }) cs) es ss n
+abbrev pub right : Way → Case → Bool
+right way (word w v) = eqb (resetOf w) v
+right way (tick p T period N d) = answers (tickOf p T period N) d
+right way (set cs answers) = answered way (lent State.freshOf (replicate cap 0)) cs answers
+right way (heap cs es ss n) = ranRight (madeAll (record { heap = freshOf; slots = []; swaps = 0 }) cs) es ss n
 
 -- the numbers of the rows that are wrong
-abbrev pub wrong : List Row → List ℕ
-wrong [] = []
-wrong (r ∷ rs) = cond (right (r .asked)) (wrong rs) (r .number ∷ wrong rs)
+abbrev pub wrong : Way → List Row → List ℕ
+wrong way [] = []
+wrong way (r ∷ rs) = cond (right way (r .asked)) (wrong way rs) (r .number ∷ wrong way rs)
 
 abbrev pub rows : List Row
 rows =

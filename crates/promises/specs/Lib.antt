@@ -3,6 +3,7 @@ pub mod Table
 pub mod Bench
 pub mod Turns
 pub mod Engine
+pub mod Untested
 pub mod Tracing
 pub mod Traces
 pub mod Otherwise

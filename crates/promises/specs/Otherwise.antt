@@ -11,9 +11,10 @@ use Rattle.state.specs.State.{freshOf}
 use Rattle.timers.specs.declared.Call.{Call}
 use Rattle.timers.specs.declared.Call.the-variants as C
 use Rattle.timers.specs.Values.{Value}
-use Rattle.timers.specs.Calls.{guarded, opened, alive, liveAt, tickedBy, with-list}
+use Rattle.timers.specs.Calls.{opened, alive, liveAt, tickedBy, with-list}
 use Rattle.promises.specs.Turns.{Engine}
-use Rattle.promises.specs.Engine.{handed, ours}
+use Rattle.promises.specs.Engine.{handed}
+use Rattle.promises.specs.Untested.{untested}
 
 -- what a call leaves of a state and the lent list, and answers
 abbrev pub Left : Type 0 → Type 0
@@ -70,9 +71,9 @@ touches c = eqb (operation c) 1 || (cancels c || ltb 8 (operation c))
 abbrev pub Way : Type 0
 Way = Set → Call → List ℕ → Left Set
 
--- OURS, BUT some calls are made otherwise
+-- OURS, BUT some calls are made otherwise. It is the engine without its test, from fresh the same (proofs/Untested.antt)
 abbrev pub but : (Call → Bool) → Way → Engine
-but those otherwise = record { State = Set; fresh = freshOf; step = λ s c l. cond (those c) (otherwise s c l) (ours .step s c l) }
+but those otherwise = record { State = Set; fresh = freshOf; step = λ s c l. cond (those c) (otherwise s c l) (untested .step s c l) }
 
 -- refused by this answer, and nothing done
 abbrev pub refusedBy : Answer Value → Way
@@ -84,11 +85,11 @@ refusedWith n = refusedBy (refused n)
 
 -- answered, and not made
 abbrev pub unmade : Way
-unmade s c l = record { state = (s, l); answer = ours .step s c l .answer }
+unmade s c l = record { state = (s, l); answer = untested .step s c l .answer }
 
 -- made, and answered otherwise
 abbrev pub answering : (Answer Value → Answer Value) → Way
-answering f s c l = let o = ours .step s c l in record { state = o .state; answer = f (o .answer) }
+answering f s c l = let o = untested .step s c l in record { state = o .state; answer = f (o .answer) }
 
 -- where it is accepted, by v
 abbrev pub said : Value → Answer Value → Answer Value
@@ -101,18 +102,18 @@ saying v = answering (said v)
 
 -- made with a part left out: a drain is but answered, a turn makes no drain, a tick does not ask whether the timer has fired
 abbrev pub lax : Way
-lax s (C.Add d) l = ours .step s (C.Add d) l
-lax s (C.Reset h d) l = ours .step s (C.Reset h d) l
-lax s (C.Cancel h) l = ours .step s (C.Cancel h) l
+lax s (C.Add d) l = untested .step s (C.Add d) l
+lax s (C.Reset h d) l = untested .step s (C.Reset h d) l
+lax s (C.Cancel h) l = untested .step s (C.Cancel h) l
 lax s C.Drain l = unmade s C.Drain l
-lax s (C.Advance N) l = ours .step s (C.Advance N) l
-lax s (C.Turn N) l = ours .step s (C.Advance N) l
-lax s C.NextWake l = ours .step s C.NextWake l
-lax s (C.Poll h) l = ours .step s (C.Poll h) l
-lax s C.Close l = ours .step s C.Close l
+lax s (C.Advance N) l = untested .step s (C.Advance N) l
+lax s (C.Turn N) l = untested .step s (C.Advance N) l
+lax s C.NextWake l = untested .step s C.NextWake l
+lax s (C.Poll h) l = untested .step s (C.Poll h) l
+lax s C.Close l = untested .step s C.Close l
 lax s (C.Tick h p period N) l =
-    handed (with-list l (guarded s s (opened s s (alive s (liveAt s h) (λ t. tickedBy s h t (tickOf p (t .due) period N))))))
-lax s (C.Restart h period N) l = ours .step s (C.Restart h period N) l
+    handed (with-list l (opened s s (alive s (liveAt s h) (λ t. tickedBy s h t (tickOf p (t .due) period N)))))
+lax s (C.Restart h period N) l = untested .step s (C.Restart h period N) l
 
 -- WITH A MARK beside the set
 abbrev pub marked : Bool → Left Set → Left (Set × Bool)

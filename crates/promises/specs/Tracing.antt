@@ -15,8 +15,7 @@ use Rattle.timers.specs.declared.Call.{Call}
 use Rattle.timers.specs.declared.Call.the-variants as C
 use Rattle.timers.specs.Values.{Value, wake, handleIn}
 use Rattle.promises.specs.Bench.{sameNumbers, code}
-use Rattle.promises.specs.Turns.{Line, Ledger, Run, seen, owed, next, run}
-use Rattle.promises.specs.Engine.{ours}
+use Rattle.promises.specs.Turns.{Engine, Line, Ledger, Run, seen, owed, next, run}
 
 -- a call as it is made, with its lent list, and what it must answer and report
 pub record Made : Type 0 where
@@ -82,14 +81,6 @@ timeCode (some t) = t ∷ []
 abbrev pub callsOf : List Made → List (Call × List ℕ)
 callsOf ms = map (λ m. (m .call, m .list)) ms
 
--- whether each call answers and reports what it must, one after the other
-abbrev pub answered : Run ours → List Made → Bool
-answered r [] = true
-answered r (m ∷ ms) =
-    let a = seen (ours .step (r .state) (m .call) (m .list)) in
-    sameNumbers (code (a .answer)) (code (m .answer))
-    && (sameNumbers (handlesCode (a .reports)) (handlesCode (m .reports)) && answered (next ours r (m .call) (m .list)) ms)
-
 -- whether the ledger has these lines
 abbrev pub lined : Ledger → List Has → Bool
 lined L [] = true
@@ -111,19 +102,29 @@ leastIn L [] = none
 leastIn L (none ∷ hs) = leastIn L hs
 leastIn L (some h ∷ hs) = let l = L .line h in cond (owed l) (lesser (l .due) (leastIn L hs)) (leastIn L hs)
 
--- whether a trace ends as it must
-abbrev pub ended : Run ours → Trace → Bool
-ended r t =
-    lined (r .ledger) (t .lines)
-    && (eqb (bit (r .ledger .closed)) (bit (t .closed))
-    && (sameNumbers (timeCode (leastIn (r .ledger) (addedIn (t .calls)))) (timeCode (t .least))
-    && sameNumbers (code (ours .step (r .state) C.NextWake [] .answer)) (code (accepted (wake (t .wake))))))
+-- of any engine
+module _ (E : Engine) where
+  -- whether each call answers and reports what it must, one after the other
+  abbrev pub answered : Run E → List Made → Bool
+  answered r [] = true
+  answered r (m ∷ ms) =
+      let a = seen (E .step (r .state) (m .call) (m .list)) in
+      sameNumbers (code (a .answer)) (code (m .answer))
+      && (sameNumbers (handlesCode (a .reports)) (handlesCode (m .reports)) && answered (next E r (m .call) (m .list)) ms)
 
--- whether all of it is as it must be
-abbrev pub right : Trace → Bool
-right t = answered (run ours []) (t .calls) && ended (run ours (callsOf (t .calls))) t
+  -- whether a trace ends as it must
+  abbrev pub ended : Run E → Trace → Bool
+  ended r t =
+      lined (r .ledger) (t .lines)
+      && (eqb (bit (r .ledger .closed)) (bit (t .closed))
+      && (sameNumbers (timeCode (leastIn (r .ledger) (addedIn (t .calls)))) (timeCode (t .least))
+      && sameNumbers (code (E .step (r .state) C.NextWake [] .answer)) (code (accepted (wake (t .wake))))))
 
--- the numbers of the traces that are wrong
-abbrev pub wrong : List Trace → List ℕ
-wrong [] = []
-wrong (t ∷ ts) = cond (right t) (wrong ts) (t .number ∷ wrong ts)
+  -- whether all of it is as it must be
+  abbrev pub right : Trace → Bool
+  right t = answered (run E []) (t .calls) && ended (run E (callsOf (t .calls))) t
+
+  -- the numbers of the traces that are wrong
+  abbrev pub wrong : List Trace → List ℕ
+  wrong [] = []
+  wrong (t ∷ ts) = cond (right t) (wrong ts) (t .number ∷ wrong ts)

@@ -18,7 +18,7 @@ use Rattle.timers.specs.declared.Call.the-variants as C
 use Rattle.timers.specs.Values.{Value, nothing, handle, counts, wake, polled}
 use Rattle.promises.specs.Bench.{_with-use_}
 use Rattle.promises.specs.Turns.{Engine}
-use Rattle.promises.specs.Engine.{ours}
+use Rattle.promises.specs.Untested.{untested}
 use Rattle.promises.specs.Otherwise.{Left, adds, cancels, drains, turns, rings, wakes, polls, closes, ticks, touches, but, refusedBy, refusedWith, answering, unmade, saying, lax, marked}
 
 -- REFUSING: every call is refused with 2
@@ -64,17 +64,17 @@ overfull = but adds (answering onePlaceMore)
 
 -- REOPENED: an add after a close is taken, by a fresh set
 abbrev pub reopened : Engine
-reopened = but adds (λ s c l. ours .step (cond (s .closed) freshOf s) c l)
+reopened = but adds (λ s c l. untested .step (cond (s .closed) freshOf s) c l)
 
 -- FREEING: an accepted cancel drains, so its place is free at once
 abbrev pub drainedToo : Left Set → Left Set
 drainedToo o = record {
-  state = cond (isAccepted (o .answer)) (ours .step (o .state .0) C.Drain (o .state .1) .state) (o .state);
+  state = cond (isAccepted (o .answer)) (untested .step (o .state .0) C.Drain (o .state .1) .state) (o .state);
   answer = o .answer;
 }
 
 abbrev pub freeing : Engine
-freeing = but cancels (λ s c l. drainedToo (ours .step s c l))
+freeing = but cancels (λ s c l. drainedToo (untested .step s c l))
 
 -- PENDING: a poll of a live timer answers pending, whatever has happened
 abbrev pub pending : Engine
@@ -94,7 +94,7 @@ undrained = but (λ c. drains c || turns c) lax
 
 -- ROOMLESS: a turn with a list of no words is taken, as one with room
 abbrev pub roomless : Engine
-roomless = but turns (λ s c l. ours .step s c (cond (eqb (length l) 0) (replicate cap 0) l))
+roomless = but turns (λ s c l. untested .step s c (cond (eqb (length l) 0) (replicate cap 0) l))
 
 -- MUTE: every advance and turn answers that nothing was reported
 abbrev pub mute : Engine
@@ -123,7 +123,7 @@ abbrev pub dozing : Engine
 dozing = record {
   State = Set × Bool;
   fresh = (freshOf, false);
-  step = λ s c l. marked (turns c) (cond (s .1) (ours .step (s .0) c l) (asleep .step (s .0) c l));
+  step = λ s c l. marked (turns c) (cond (s .1) (untested .step (s .0) c l) (asleep .step (s .0) c l));
 }
 
 -- RESTLESS: next wake answers 0 but directly after a turn, though nothing may be owed then. The mark says whether the last call was one
@@ -131,7 +131,7 @@ abbrev pub restless : Engine
 restless = record {
   State = Set × Bool;
   fresh = (freshOf, false);
-  step = λ s c l. marked (turns c) (cond (s .1) (ours .step (s .0) c l) (but wakes (saying (wake (some 0))) .step (s .0) c l));
+  step = λ s c l. marked (turns c) (cond (s .1) (untested .step (s .0) c l) (but wakes (saying (wake (some 0))) .step (s .0) c l));
 }
 
 -- SCRIBBLING: a turn that is refused empties the lent list
@@ -139,17 +139,17 @@ abbrev pub emptied : Left Set → Left Set
 emptied o = record { state = (o .state .0, cond (isAccepted (o .answer)) (o .state .1) []); answer = o .answer }
 
 abbrev pub scribbling : Engine
-scribbling = but turns (λ s c l. emptied (ours .step s c l))
+scribbling = but turns (λ s c l. emptied (untested .step s c l))
 
 -- HASTY: the first accepted turn reports all owed timers, as one at the last reading there is does; later ones report none. The mark
 -- says whether there was one
 abbrev pub allAtOnce : Bool → Set → Call → List ℕ → Left (Set × Bool)
-allAtOnce false s c l = let o = ours .step s (C.Turn 18446744073709551615) l in marked (isAccepted (o .answer)) o
+allAtOnce false s c l = let o = untested .step s (C.Turn 18446744073709551615) l in marked (isAccepted (o .answer)) o
 allAtOnce true s c l = marked true (mute .step s c l)
 
 abbrev pub hasty : Engine
 hasty = record {
   State = Set × Bool;
   fresh = (freshOf, false);
-  step = λ s c l. cond (turns c) (allAtOnce (s .1) (s .0) c l) (marked (s .1) (ours .step (s .0) c l));
+  step = λ s c l. cond (turns c) (allAtOnce (s .1) (s .0) c l) (marked (s .1) (untested .step (s .0) c l));
 }
