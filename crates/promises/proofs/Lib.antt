@@ -2,6 +2,7 @@
 pub mod Refusing
 pub mod Ledger
 pub mod OneMoment
+pub mod Drawn
 pub mod ByClause
 pub mod Table
 pub mod FaultTold

@@ -28,7 +28,7 @@ use Rattle.timers.specs.declared.Call.{Call}
 use Rattle.timers.specs.declared.Call.the-variants as C
 use Rattle.timers.specs.Calls.{Value, nothing, handle, counts, wake, polled, time, Lent, lent, step}
 use Rattle.promises.specs.Bench.{sameNumbers, answered, _with-use_}
-use Rattle.promises.specs.States.{anOpen, aClosed, bare, timer, live, from, nobody, no-slot}
+use Rattle.promises.specs.States.{setOf, anOpen, aClosed, bare, timer, live, from, nobody, no-slot}
 
 -- what a row asks, with the answer that it must get
 pub data Corner : Type 0 where
@@ -84,7 +84,7 @@ samePlace t u =
 abbrev pub right : Corner → Bool
 right (poll w n) = sameNumbers (timeCode (pollOf w)) (timeCode (accepted n))
 right (skip T period N a) = sameNumbers (timeCode (tickOf Skip T period N)) (timeCode a)
-right (calls s cs answers) = answered (lent s (replicate cap 0)) cs answers
+right (calls s cs answers) = answered step (lent s (replicate cap 0)) cs answers
 right (drain s t) = samePlace (timerAt (step s C.Drain [] .state .set) 0) t
 right (names w h) = sameNumbers (nameCode (namedBy w)) (nameCode h)
 
@@ -103,17 +103,18 @@ cancelledAt u = record { life = Cancelled 0; waiting = Last; held = Held.Nothing
 
 -- it is at place 0: of a set whose other places are free, and of one whose other places are all live
 abbrev pub alone : ℕ → Set
-alone u = anOpen bare (cancelledAt u ∷ []) (from 0)
+alone u = setOf (anOpen bare (cancelledAt u ∷ []) (from 0))
 
 abbrev pub crowded : ℕ → Set
-crowded u = anOpen bare (cancelledAt u ∷ replicate (cap - 1) (live No no-slot)) (from 0)
+crowded u = setOf (anOpen bare (cancelledAt u ∷ replicate (cap - 1) (live No no-slot)) (from 0))
 
 -- a closed set with a live timer of each of the words 0 to 3
 abbrev pub marked : Set
 marked =
-    aClosed bare
+    setOf
+    (aClosed bare
     (timer (Live 0 5) No no-slot ∷ timer (Live 1 5) No no-slot ∷ timer (Live 2 5) No no-slot ∷ timer (Live 3 5) No no-slot ∷ [])
-    nobody
+    nobody)
 
 abbrev pub corners : List Row
 corners =

@@ -9,7 +9,7 @@ use mathlib.Core.Bool.{Bool, true, false, cond, _&&_}
 use mathlib.Core.List.{List, [], _∷_, _++_}
 use Prim.Native.Nat.{ℕ, zero, suc, _+_, _-_, _^_}
 use lib.Dec.{ltb, eqb}
-use lib.ListN.{length, drop, replicate, set}
+use lib.ListN.{length, replicate}
 use Rattle.theory.specs.Tests.{bit}
 use Rattle.heap.specs.Capacity.{cap}
 use Rattle.heap.specs.declared.Entry.{Entry}
@@ -35,9 +35,29 @@ use Rattle.promises.specs.Clauses.{broken}
 
 -- HOW THE SETS ARE WRITTEN
 
--- the list, and after it what the room holds past its length
-abbrev pub inRoom : {A : Type 0} → List A → List A → List A
-inRoom xs room = xs ++ drop (length xs) room
+-- a heap as it is drawn here: its entries by position and its slots by number, how many of each count, and the free head
+pub record DrawnHeap : Type 0 where
+  pub entries : List Entry
+  pub len : ℕ
+  pub slots : List SlabSlot
+  pub made : ℕ
+  pub free : ℕ
+
+-- a set as it is drawn here: its heap, the timers from the place `start` on, the head of its list, and whether it is closed
+pub record Drawn : Type 0 where
+  pub heap : DrawnHeap
+  pub start : ℕ
+  pub timers : List Timer
+  pub first : First
+  pub closed : Bool
+
+-- n elements of an array that are not in use
+unfoldable pub spare : {A : Type 0} → A → ℕ → List A
+spare d n = replicate n d
+
+-- an array from the number k on: these elements, and after them the rest of the room, which is not in use
+abbrev pub inRoom : {A : Type 0} → A → ℕ → List A → List A
+inRoom d k xs = xs ++ spare d (cap - (k + length xs))
 
 -- a slot that is full with a position, and one that is empty and names a slot
 abbrev pub full : ℕ → SlabSlot
@@ -46,35 +66,47 @@ full i = record { state = Full (record { 0 = i }) }
 abbrev pub empty : ℕ → SlabSlot
 empty n = record { state = Empty (record { 0 = n }) }
 
+-- the heap, and the set, that is drawn
+unfoldable pub heapOf : DrawnHeap → Heap
+heapOf h = record {
+  entries = inRoom noEntry 0 (h .entries);
+  len = h .len;
+  slots = inRoom (empty 0) 0 (h .slots);
+  made = h .made;
+  free = record { 0 = h .free };
+}
+
+unfoldable pub setOf : Drawn → Set
+setOf d = record {
+  heap = heapOf (d .heap);
+  timers = spare noTimer (d .start) ++ inRoom noTimer (d .start) (d .timers);
+  first = d .first;
+  closed = d .closed;
+}
+
 -- an entry of generation 0
 abbrev pub entry : (at place slot : ℕ) → Entry
 entry d p q = record { at = d; generation = 0; place = record { 0 = p }; slot = record { 0 = q } }
 
 -- a heap with these entries by position, these slots by number, and this free head
-abbrev pub heap : List Entry → List SlabSlot → ℕ → Heap
-heap es ss f = record {
-  entries = inRoom es (replicate cap noEntry);
-  len = length es;
-  slots = inRoom ss (replicate cap (empty 0));
-  made = length ss;
-  free = record { 0 = f };
-}
+abbrev pub heap : List Entry → List SlabSlot → ℕ → DrawnHeap
+heap es ss f = record { entries = es; len = length es; slots = ss; made = length ss; free = f }
 
 -- the same with another count of entries, or of slots
-abbrev pub withLen : ℕ → Heap → Heap
+abbrev pub withLen : ℕ → DrawnHeap → DrawnHeap
 withLen n h = record { entries = h .entries; len = n; slots = h .slots; made = h .made; free = h .free }
 
-abbrev pub withMade : ℕ → Heap → Heap
+abbrev pub withMade : ℕ → DrawnHeap → DrawnHeap
 withMade n h = record { entries = h .entries; len = h .len; slots = h .slots; made = n; free = h .free }
 
 -- a heap of one entry, that of place 0 in slot 0; and of none, with one slot made, or none
-abbrev pub one : Heap
+abbrev pub one : DrawnHeap
 one = heap (entry 5 0 0 ∷ []) (full 0 ∷ []) 1
 
-abbrev pub vacated : Heap
+abbrev pub vacated : DrawnHeap
 vacated = heap [] (empty 1 ∷ []) 0
 
-abbrev pub bare : Heap
+abbrev pub bare : DrawnHeap
 bare = heap [] [] 0
 
 -- timers by their life, their link and their slot
@@ -104,25 +136,25 @@ abbrev pub from : ℕ → First
 from p = First.At (record { 0 = p })
 
 -- an open set and a closed one: these timers by place, and the rest of the places free
-abbrev pub anOpen : Heap → List Timer → First → Set
-anOpen h ts f = record { heap = h; timers = inRoom ts (replicate cap noTimer); first = f; closed = false }
+abbrev pub anOpen : DrawnHeap → List Timer → First → Drawn
+anOpen h ts f = record { heap = h; start = 0; timers = ts; first = f; closed = false }
 
-abbrev pub aClosed : Heap → List Timer → First → Set
-aClosed h ts f = record { heap = h; timers = inRoom ts (replicate cap noTimer); first = f; closed = true }
+abbrev pub aClosed : DrawnHeap → List Timer → First → Drawn
+aClosed h ts f = record { heap = h; start = 0; timers = ts; first = f; closed = true }
 
 -- an open set with this timer at the last place, and the rest of the places free
-abbrev pub atLast : Heap → Timer → First → Set
-atLast h t f = record { heap = h; timers = set (replicate cap noTimer) (cap - 1) t; first = f; closed = false }
+abbrev pub atLast : DrawnHeap → Timer → First → Drawn
+atLast h t f = record { heap = h; start = cap - 1; timers = t ∷ []; first = f; closed = false }
 
 -- ROWS
 
 pub record Row : Type 0 where
   pub number : ℕ
-  pub sound : Set
-  pub unsound : Set
+  pub sound : Drawn
+  pub unsound : Drawn
   pub breaks : List ℕ
 
-abbrev pub row : ℕ → (sound unsound : Set) → (breaks : List ℕ) → Row
+abbrev pub row : ℕ → (sound unsound : Drawn) → (breaks : List ℕ) → Row
 row n a b cs = record { number = n; sound = a; unsound = b; breaks = cs }
 
 -- these are clauses of the set's own, and none of them the heap's
@@ -136,45 +168,48 @@ tested s sound cs =
     eqb (bit (soundOf s)) (bit sound) && (eqb (bit (consistentOf (s .heap))) (bit (ofSet cs)) && sameNumbers (broken s) cs)
 
 abbrev pub right : Row → Bool
-right r = tested (r .sound) true [] && tested (r .unsound) false (r .breaks)
+right r = tested (setOf (r .sound)) true [] && tested (setOf (r .unsound)) false (r .breaks)
 
 -- the numbers of the rows that are wrong
 abbrev pub wrong : List Row → List ℕ
 wrong [] = []
 wrong (r ∷ rs) = cond (right r) (wrong rs) (r .number ∷ wrong rs)
 
+-- n elements, each made of its number, the first of which is k
+unfoldable pub numbered : {A : Type 0} → (ℕ → A) → ℕ → ℕ → List A
+numbered f zero k = []
+numbered f (suc n) k = f k ∷ numbered f n (suc k)
+
 -- a full heap: entries of one deadline, each in the slot and of the place that have the number of its position
 abbrev pub entriesFrom : ℕ → ℕ → List Entry
-entriesFrom zero k = []
-entriesFrom (suc n) k = entry 5 k k ∷ entriesFrom n (suc k)
+entriesFrom n k = numbered (λ i. entry 5 i i) n k
 
 abbrev pub fullFrom : ℕ → ℕ → List SlabSlot
-fullFrom zero k = []
-fullFrom (suc n) k = full k ∷ fullFrom n (suc k)
+fullFrom n k = numbered full n k
 
 abbrev pub heldFrom : ℕ → ℕ → List Timer
-heldFrom zero k = []
-heldFrom (suc n) k = live No (in-slot k) ∷ heldFrom n (suc k)
+heldFrom n k = numbered (λ i. live No (in-slot i)) n k
 
-abbrev pub fullHeap : Heap
+abbrev pub fullHeap : DrawnHeap
 fullHeap = heap (entriesFrom cap 0) (fullFrom cap 0) cap
 
 -- every slot made and empty, each naming the one before it, the first naming the number n; the free head is the last
-abbrev pub emptyFrom : ℕ → ℕ → List SlabSlot
-emptyFrom zero k = []
-emptyFrom (suc n) k = empty k ∷ emptyFrom n (suc k)
+abbrev pub emptyHeap : ℕ → DrawnHeap
+emptyHeap n = withMade n (heap [] (empty n ∷ numbered empty (cap - 1) 0) (cap - 1))
 
-abbrev pub emptyHeap : ℕ → Heap
-emptyHeap n = withMade n (heap [] (empty n ∷ emptyFrom (cap - 1) 0) (cap - 1))
-
-abbrev pub counts : List Row
-counts =
+-- where as many entries or slots as there is room for are drawn
+abbrev pub overfull : List Row
+overfull =
     -- AN ENTRY TOO MANY. It breaks 13 too: there are then more entries than the slots can be full
     row 1 (anOpen fullHeap (heldFrom cap 0) nobody) (anOpen (withLen (cap + 1) fullHeap) (heldFrom cap 0) nobody) (11 ∷ 13 ∷ [])
     -- A SLOT TOO MANY
     ∷ row 2 (anOpen (emptyHeap cap) [] nobody) (anOpen (emptyHeap (cap + 1)) [] nobody) (12 ∷ [])
+    ∷ []
+
+abbrev pub counts : List Row
+counts =
     -- A FULL SLOT WITHOUT AN ENTRY
-    ∷ row 3 (anOpen vacated [] nobody) (anOpen (heap [] (full 0 ∷ []) 1) [] nobody) (13 ∷ [])
+    row 3 (anOpen vacated [] nobody) (anOpen (heap [] (full 0 ∷ []) 1) [] nobody) (13 ∷ [])
     -- AN ENTRY WITHOUT A FULL SLOT. It breaks 14 too: different entries would need different full slots
     ∷ row 4
     (anOpen one (live No (in-slot 0) ∷ []) nobody)
@@ -206,7 +241,7 @@ abbrev pub due : ℕ → List ℕ → List Entry
 due k [] = []
 due k (d ∷ ds) = entry d k k ∷ due (suc k) ds
 
-abbrev pub standing : List ℕ → Set
+abbrev pub standing : List ℕ → Drawn
 standing ds = anOpen (heap (due 0 ds) (fullFrom (length ds) 0) (length ds)) (heldFrom (length ds) 0) nobody
 
 abbrev pub orders : List Row
@@ -244,11 +279,11 @@ chains =
     ∷ []
 
 -- a heap without an entry or a slot, past whose counts there are both: a slot that is full, and an entry of place 0
-abbrev pub leftOver : Heap
+abbrev pub leftOver : DrawnHeap
 leftOver = withMade 0 (withLen 0 (heap (entry 5 0 0 ∷ []) (full 0 ∷ []) 0))
 
 -- one entry, of place 1 in slot 0
-abbrev pub another : Heap
+abbrev pub another : DrawnHeap
 another = heap (entry 5 1 0 ∷ []) (full 0 ∷ []) 1
 
 abbrev pub slots : List Row
@@ -343,7 +378,7 @@ lists =
     ∷ []
 
 -- a heap of one entry, of the last place in slot 0
-abbrev pub ofLast : Heap
+abbrev pub ofLast : DrawnHeap
 ofLast = heap (entry 5 (cap - 1) 0 ∷ []) (full 0 ∷ []) 1
 
 abbrev pub closings : List Row
@@ -407,7 +442,7 @@ cancels =
     ∷ []
 
 -- an entry of place 0 in slot 0 with this generation
-abbrev pub ofGeneration : ℕ → Heap
+abbrev pub ofGeneration : ℕ → DrawnHeap
 ofGeneration g = heap (record { at = 5; generation = g; place = record { 0 = 0 }; slot = record { 0 = 0 } } ∷ []) (full 0 ∷ []) 1
 
 abbrev pub ranges : List Row
@@ -425,7 +460,7 @@ ranges =
     ∷ []
 
 -- two entries, each in the slot and of the place that have the number of its position, the second of this generation
-abbrev pub two : ℕ → Heap
+abbrev pub two : ℕ → DrawnHeap
 two g = heap (entry 5 0 0 ∷ record { at = 5; generation = g; place = record { 0 = 1 }; slot = record { 0 = 1 } } ∷ []) (full 0 ∷ full 1 ∷ []) 2
 
 -- where nothing is wrong at the head of the heap or of the list, or at place 0
@@ -485,5 +520,9 @@ later =
     (82 ∷ [])
     ∷ []
 
+-- where few are drawn
+abbrev pub few : List Row
+few = counts ++ positions ++ orders ++ chains ++ slots ++ lists ++ closings ++ unused ++ cancels ++ ranges ++ later
+
 abbrev pub rows : List Row
-rows = counts ++ positions ++ orders ++ chains ++ slots ++ lists ++ closings ++ unused ++ cancels ++ ranges ++ later
+rows = overfull ++ few

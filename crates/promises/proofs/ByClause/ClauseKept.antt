@@ -1,4 +1,5 @@
--- The clauses of specs/Clauses.antt, all at once: a set breaks none exactly where it keeps each.
+-- The clauses of specs/Clauses.antt, all at once: a set breaks none exactly where it keeps each. The worked sets are computed before
+-- this, so that what is wrong of one of them is told by `few-right` first.
 -- Assumes nothing.
 use mathlib.Core.Path.{_≡_, refl}
 use mathlib.Core.Bool.{Bool, true, false, cond}
@@ -7,6 +8,7 @@ use Prim.Native.Nat.{ℕ}
 use native.Mathlib.Omega.{arith}
 use Rattle.state.specs.declared.Set.{Set}
 use Rattle.promises.specs.Clauses.{entriesFit, slotsFit, counted, positioned, ordered, chained, ownSlots, ownEntries, waitersListed, onlyWaiters, listedOnce, liveUnmarked, cancelledUnmarked, closedList, closedHeap, isFree, isRetired, noneHeld, noneListed, cancelledListed, generationsFit, placesFit, Clause, clauses, brokenOf, broken}
+use Rattle.promises.proofs.Drawn.Small.{few-right}
 
 -- every clause of a list of them holds
 abbrev All : Set → List Clause → Type 0

@@ -1,6 +1,5 @@
 -- What the small tests on lists in specs/Clauses.antt tell: of every element, of one element, of how often a number stands in a list,
--- and of the numbers that are met along links. The worked sets are read before this, so that a clause that is wrong of one of them is
--- told by `states-right` first.
+-- and of the numbers that are met along links.
 -- Assumes nothing.
 use mathlib.Core.Path.{_≡_, refl, sym, ap, subst, _∙_}
 use mathlib.Core.Logic.{_⊎_, inl, inr}
@@ -17,7 +16,6 @@ use Rattle.theory.specs.Counting.{tally, count, Mem, Distinct}
 use Rattle.theory.specs.Chain.{nodes, Chain}
 use Rattle.theory.proofs.Tests.{ref-lt, ref-and, ref-map, by-ref, none-some}
 use Rattle.promises.specs.Clauses.{each, element, there, times, endsIn, isEmpty}
-use Rattle.promises.proofs.States.{states-right}
 
 -- every element passes exactly where each has what its test tells
 pub ref-each : {A : Type 0} (d : A) (P : ℕ → Type 0) (f : ℕ → A → Bool) (xs : List A) (k : ℕ)
@@ -185,6 +183,11 @@ pub nodes-none : (next : ℕ → Option ℕ) (n : ℕ) → nodes next n none ≡
 unfolding nodes
 nodes-none next zero = refl
 nodes-none next (suc n) = refl
+
+-- from a head on something is met
+pub nodes-some : (next : ℕ → Option ℕ) (n x : ℕ) → nodes next (suc n) (some x) ≡ [] → ⊥
+unfolding nodes
+nodes-some next n x e = false≢true (ap isEmpty e)
 
 -- the same links meet the same numbers
 pub nodes-same : (f g : ℕ → Option ℕ) → ((x : ℕ) → f x ≡ g x) → (n : ℕ) (h : Option ℕ) → nodes f n h ≡ nodes g n h

@@ -28,7 +28,7 @@ use Rattle.state.specs.State.{noTimer, timerAt, isWaiting, nextIn, headOf}
 use Rattle.state.specs.Faults.{waitsAt, afterAt}
 use Rattle.state.proofs.PlaceTest.{ref-self}
 use Rattle.promises.specs.Clauses.{each, element, there, times, listed, waitersListed, onlyWaiters, listedOnce, liveWord, cancelledWord, liveUnmarked, cancelledUnmarked, closedList, noneListed, cancelledListed}
-use Rattle.promises.proofs.ByClause.ClauseLists.{ref-all, element-in, element-out, in-element, ref-some, ref-any, ref-empty, ref-off, ref-open, ref-shut, ref-mem, once-distinct, ref-members, nodes-same, nodes-none, chain-met, met-chain}
+use Rattle.promises.proofs.ByClause.ClauseLists.{ref-all, element-in, element-out, in-element, ref-some, ref-any, ref-empty, ref-off, ref-open, ref-shut, ref-mem, once-distinct, ref-members, nodes-same, nodes-none, nodes-some, chain-met, met-chain}
 
 -- a place that waits is a place of the set
 pub below : (s : Set) (p : ℕ) → waitsAt s p ≡ true → p < cap
@@ -142,7 +142,6 @@ module _ (s : Set) (n : length (s .timers) ≡ cap) where
 
   -- 43: the list of a closed set is empty
   pub ref-closed-list : Ref (s .closed ≡ true → s .first ≡ First.Nothing) (closedList s)
-  unfolding nodes
   ref-closed-list =
       ref-shut (s .closed)
       (ref-map (ref-empty (listed s)) (λ e. go (s .first) (sym listed-same ∙ e))
@@ -150,7 +149,7 @@ module _ (s : Set) (n : length (s .timers) ≡ cap) where
     where
       go : (f : First) → nodes (afterAt s) (suc cap) (headOf f) ≡ [] → f ≡ First.Nothing
       go First.Nothing e = refl
-      go (First.At p) e = absurd (let z : _≡_ {A = ℕ} 0 1 = cc in omega arith)
+      go (First.At p) e = absurd (nodes-some (afterAt s) cap (p .0) e)
 
   -- 53, 54: no place of this kind is in the list
   pub ref-none-listed : (kind : Life → Bool)
