@@ -6,12 +6,12 @@ use Prim.Native.Nat.{ℕ, _-_}
 use lib.Dec.{ltb, leb, eqb}
 use Rattle.theory.specs.Order.{parent}
 use Rattle.theory.specs.Counting.{count}
-use Rattle.theory.specs.Chain.{unless}
+use Rattle.theory.specs.Chain.{unless, clear}
 use Rattle.theory.specs.First.{firstBad}
 use Rattle.theory.specs.WrongStep.{wrongStep}
 use Rattle.refusals.specs.declared.fault.Fault.{Fault}
 use Rattle.refusals.specs.declared.fault.Fault.the-variants.{Count, Position, Order, FreeChain}
-use Rattle.refusals.specs.Faults.{orElse, faultBy, clear}
+use Rattle.refusals.specs.Faults.{orElse, faultBy}
 use Rattle.heap.specs.Capacity.{cap}
 use Rattle.heap.specs.declared.SlotState.{SlotState}
 use Rattle.heap.specs.declared.SlotState.the-variants.{Full, Empty}

@@ -2,33 +2,22 @@
 -- is (proofs/Testing/Named.antt). On the meaning, and not on the scans that find it.
 -- Assumes nothing.
 use mathlib.Core.Path.{_≡_}
-use mathlib.Core.Bool.{false}
 use Prim.Native.Nat.{ℕ, _≤_, _<_}
-use Rattle.theory.specs.Order.{parent}
 use Rattle.theory.specs.Counting.{count}
 use Rattle.theory.specs.Chain.{unless}
 use Rattle.theory.specs.WrongStep.{WrongAt}
 use Rattle.refusals.specs.declared.fault.Fault.{Fault}
 use Rattle.refusals.specs.declared.fault.Fault.the-variants.{Count, Position, Order, FreeChain, List, Place}
 use Rattle.heap.specs.Capacity.{cap}
-use Rattle.heap.specs.declared.SlotState.the-variants.{Full}
 use Rattle.heap.specs.declared.Heap.{Heap}
-use Rattle.heap.specs.Rules.{entryAt, stateAt, slotAt, before}
 use Rattle.heap.specs.Faults.{fullAt, emptyAt, nextAt}
+use Rattle.heap.specs.Sound.{Placed, Ordered}
 
 -- the counts are right
 pub record Counts (h : Heap) : Type 0 where
   pub len-in : h .len ≤ cap
   pub made-in : h .made ≤ cap
   pub counted : count (fullAt h) (h .made) ≡ h .len
-
--- the slot of the entry at a position was made, is full and names the position
-abbrev pub Placed : Heap → ℕ → Type 0
-Placed h i = (slotAt h i < h .made) × (stateAt h (slotAt h i) ≡ Full (record { 0 = i }))
-
--- the entry at a position is not smaller than its parent
-abbrev pub Ordered : Heap → ℕ → Type 0
-Ordered h i = before (entryAt h i) (entryAt h (parent i)) ≡ false
 
 -- the kinds, each up to a position
 abbrev pub PlacedTo : Heap → ℕ → Type 0

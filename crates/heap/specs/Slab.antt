@@ -1,21 +1,15 @@
 -- A sound heap in two parts: the slab part, which is all of `Sound` but the order, and the order.
 -- Assumes nothing.
 use mathlib.Core.Path.{_≡_}
-use mathlib.Core.Bool.{true, false}
+use mathlib.Core.Bool.{true}
 use Prim.Native.Nat.{ℕ, _<_, _≤_}
 use lib.ListN.{length}
-use Rattle.theory.specs.Order.{parent}
 use Rattle.theory.specs.Counting.{count}
 use Rattle.theory.specs.Chain.{unless, chainOkb}
 use Rattle.heap.specs.Capacity.{cap}
-use Rattle.heap.specs.declared.SlotState.the-variants.{Full}
 use Rattle.heap.specs.declared.Heap.{Heap}
-use Rattle.heap.specs.Rules.{entryAt, stateAt, slotAt, before}
 use Rattle.heap.specs.Faults.{fullAt, emptyAt, nextAt}
-
--- the slot of the entry at a position was made, and is full with the position
-abbrev pub Named : Heap → ℕ → Type 0
-Named h p = (slotAt h p < h .made) × (stateAt h (slotAt h p) ≡ Full (record { 0 = p }))
+use Rattle.heap.specs.Sound.{Placed, Ordered}
 
 -- a sound heap, but for the order
 pub record Slab (h : Heap) : Type 0 where
@@ -24,9 +18,9 @@ pub record Slab (h : Heap) : Type 0 where
   pub len-in : h .len ≤ cap
   pub made-in : h .made ≤ cap
   pub counted : count (fullAt h) (h .made) ≡ h .len
-  pub forth : (p : ℕ) → p < h .len → Named h p
+  pub forth : (p : ℕ) → p < h .len → Placed h p
   pub chained : chainOkb (emptyAt h) (nextAt h) (h .made) (unless (h .made) (h .free .0)) ≡ true
 
 -- no entry in use is smaller than its parent
 abbrev pub OrderedIn : Heap → Type 0
-OrderedIn h = (i : ℕ) → 0 < i → i < h .len → before (entryAt h i) (entryAt h (parent i)) ≡ false
+OrderedIn h = (i : ℕ) → 0 < i → i < h .len → Ordered h i

@@ -14,6 +14,14 @@ use Rattle.heap.specs.declared.Heap.{Heap}
 use Rattle.heap.specs.Rules.{entryAt, stateAt, slotAt, before}
 use Rattle.heap.specs.Faults.{fullAt, emptyAt, nextAt}
 
+-- the slot of the entry at a position was made, and is full with the position
+abbrev pub Placed : Heap → ℕ → Type 0
+Placed h i = (slotAt h i < h .made) × (stateAt h (slotAt h i) ≡ Full (record { 0 = i }))
+
+-- the entry at a position is not smaller than its parent
+abbrev pub Ordered : Heap → ℕ → Type 0
+Ordered h i = before (entryAt h i) (entryAt h (parent i)) ≡ false
+
 pub record Sound (h : Heap) : Type 0 where
   -- the arrays have the capacity, as the code's types say
   pub entries-long : length (h .entries) ≡ cap
@@ -22,10 +30,9 @@ pub record Sound (h : Heap) : Type 0 where
   pub len-in : h .len ≤ cap
   pub made-in : h .made ≤ cap
   pub counted : count (fullAt h) (h .made) ≡ h .len
-  -- each entry's slot was made, and is full with the entry's position
-  pub forth : (p : ℕ) → p < h .len → (slotAt h p < h .made) × (stateAt h (slotAt h p) ≡ Full (record { 0 = p }))
-  -- no entry is smaller than its parent
-  pub ordered : (i : ℕ) → 0 < i → i < h .len → before (entryAt h i) (entryAt h (parent i)) ≡ false
+  -- each entry's slot names its position, and no entry is smaller than its parent
+  pub forth : (p : ℕ) → p < h .len → Placed h p
+  pub ordered : (i : ℕ) → 0 < i → i < h .len → Ordered h i
   -- from the free head the chain visits each empty slot once, and ends at the number of slots
   pub chained : chainOkb (emptyAt h) (nextAt h) (h .made) (unless (h .made) (h .free .0)) ≡ true
 

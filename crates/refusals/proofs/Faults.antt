@@ -4,10 +4,10 @@ use mathlib.Core.Path.{_≡_, refl, sym, ap, _∙_}
 use mathlib.Core.Bool.{true, _&&_}
 use mathlib.Core.Option.{Option, none, some}
 use Prim.Native.Nat.{ℕ}
-use Rattle.theory.specs.Chain.{noFault}
+use Rattle.theory.specs.Chain.{clear}
 use Rattle.theory.proofs.Tests.{true-false}
 use Rattle.refusals.specs.declared.fault.Fault.{Fault}
-use Rattle.refusals.specs.Faults.{orElse, faultBy, clear}
+use Rattle.refusals.specs.Faults.{orElse, faultBy}
 
 -- nothing is found where neither of the two tests found anything
 pub clear-else : (f g : Option Fault) → clear (orElse f g) ≡ (clear f && clear g)
@@ -15,7 +15,7 @@ clear-else none g = refl
 clear-else (some f) g = refl
 
 -- nothing of a kind where the scan found none
-pub clear-by : (kind : ℕ → Fault) (o : Option ℕ) → clear (faultBy kind o) ≡ noFault o
+pub clear-by : (kind : ℕ → Fault) (o : Option ℕ) → clear (faultBy kind o) ≡ clear o
 clear-by kind none = refl
 clear-by kind (some k) = refl
 

@@ -1,7 +1,6 @@
 -- The first fault of a state: its kind, and where it is.
 -- Assumes nothing.
 use mathlib.Core.Path.{_≡_}
-use mathlib.Core.Bool.{Bool, true, false}
 use mathlib.Core.Option.{Option, none, some}
 use Prim.Native.Nat.{ℕ}
 use Rattle.refusals.specs.declared.fault.Fault.{Fault}
@@ -36,11 +35,6 @@ orElse (some f) g = some f
 abbrev pub faultBy : (ℕ → Fault) → Option ℕ → Option Fault
 faultBy kind none = none
 faultBy kind (some k) = some (kind k)
-
--- nothing was found
-abbrev pub clear : Option Fault → Bool
-clear none = true
-clear (some f) = false
 
 -- what a test of the code says
 abbrev pub saidVerdict : Verdict → Option Fault

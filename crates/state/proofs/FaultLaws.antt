@@ -6,7 +6,8 @@ use Prim.Native.Nat.{ℕ}
 use lib.ListN.{length}
 use Rattle.refusals.specs.declared.fault.Fault.{Fault}
 use Rattle.refusals.specs.declared.fault.Fault.the-variants.{List, Place}
-use Rattle.refusals.specs.Faults.{faultBy, clear}
+use Rattle.theory.specs.Chain.{clear}
+use Rattle.refusals.specs.Faults.{faultBy}
 use Rattle.refusals.proofs.Faults.{stops}
 use Rattle.heap.specs.Capacity.{cap}
 use Rattle.heap.specs.Faults as Heaps

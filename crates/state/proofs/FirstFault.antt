@@ -8,14 +8,14 @@ use mathlib.Core.Option.{Option, none, some}
 use Prim.Native.Nat.{ℕ, zero, suc, _≤_, _<_, min}
 use native.Mathlib.Omega.{arith}
 use lib.ListN.{length}
-use Rattle.theory.specs.Chain.{noFault}
+use Rattle.theory.specs.Chain.{clear}
 use Rattle.theory.specs.First.{firstBad}
 use Rattle.theory.proofs.Tests.{none-some, true-false, by-ref, ref-eq, ref-le, ref-true, true-ref}
 use Rattle.theory.proofs.First.{none-all, some-first}
 use Rattle.theory.proofs.WrongStep.{wrong-none, wrong-at}
 use Rattle.refusals.specs.declared.fault.Fault.{Fault}
 use Rattle.refusals.specs.declared.fault.Fault.the-variants.{Count, Position, Order, FreeChain, List, Place}
-use Rattle.refusals.specs.Faults.{orElse, faultBy, clear}
+use Rattle.refusals.specs.Faults.{orElse, faultBy}
 use Rattle.heap.specs.Capacity.{cap}
 use Rattle.heap.specs.Rules.{entryAt}
 use Rattle.heap.specs.Faults as Heaps
@@ -152,7 +152,7 @@ module _ (s : Set) where
   fault-named m k f e = go (Heaps.faultOf (s .heap)) refl e
     where
       listed : Heap.Sound (s .heap) → (x : Option ℕ) → listScan s ≡ x → orElse (faultBy List x) (faultBy Place (placeScan s)) ≡ some f → Named s f
-      listed h none q e = place-named h (sym (wrong-none (waitsAt s) (afterAt s) (headOf (s .first)) cap (waits-below s)) ∙ ap noFault q) f e
+      listed h none q e = place-named h (sym (wrong-none (waitsAt s) (afterAt s) (headOf (s .first)) cap (waits-below s)) ∙ ap clear q) f e
       listed h (some j) q e =
           let z : List j ≡ f = cc in
           subst (Named s) z (h, wrong-at (waitsAt s) (afterAt s) (headOf (s .first)) cap (waits-below s) j q)

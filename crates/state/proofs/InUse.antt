@@ -12,7 +12,8 @@ use Rattle.theory.proofs.Tests.{ref-lt}
 use Rattle.theory.proofs.First.{first-same}
 use Rattle.refusals.specs.declared.fault.Fault.{Fault}
 use Rattle.refusals.specs.declared.fault.Fault.the-variants.{List, Place}
-use Rattle.refusals.specs.Faults.{orElse, faultBy, clear}
+use Rattle.theory.specs.Chain.{clear}
+use Rattle.refusals.specs.Faults.{orElse, faultBy}
 use Rattle.heap.specs.Capacity.{cap}
 use Rattle.heap.specs.declared.Entry.{Entry}
 use Rattle.heap.specs.declared.SlotState.{SlotState}

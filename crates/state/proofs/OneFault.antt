@@ -3,7 +3,7 @@
 use mathlib.Core.Path.{_≡_, sym, ap, _∙_}
 use mathlib.Core.Option.{some}
 use Prim.Native.Nat.{ℕ}
-use Rattle.theory.specs.Chain.{noFault}
+use Rattle.theory.specs.Chain.{clear}
 use Rattle.theory.specs.WrongStep.{WrongAt, wrongStep}
 use Rattle.theory.proofs.Tests.{true-false}
 use Rattle.theory.proofs.WrongStep.{wrong-only, wrong-none}
@@ -29,7 +29,7 @@ module _ (s : Set) where
 
   -- a list that is right goes wrong at no step
   listed-none : Listed s → (k : ℕ) → WrongAt (waitsAt s) (afterAt s) cap (headOf (s .first)) k → ⊥
-  listed-none l k w = true-false (wrong-none (waitsAt s) (afterAt s) (headOf (s .first)) cap (waits-below s) ∙ l) (ap noFault (step-is k w))
+  listed-none l k w = true-false (wrong-none (waitsAt s) (afterAt s) (headOf (s .first)) cap (waits-below s) ∙ l) (ap clear (step-is k w))
 
   -- a fault that is named is the heap's, or of the list, or of a place
   data Whose : Fault → Type 0 where

@@ -7,13 +7,13 @@ use Prim.Native.Nat.{ℕ, _<_}
 use native.Mathlib.Omega.{arith}
 use lib.ListN.{length}
 use Rattle.theory.specs.Tests.{Ref, holds, fails}
-use Rattle.theory.specs.Chain.{chainOkb, noFault}
+use Rattle.theory.specs.Chain.{chainOkb, clear}
 use Rattle.theory.specs.First.{firstBad}
 use Rattle.theory.proofs.Tests.{ref-and, ref-map, ref-true, true-ref, none-some, and-left, and-right}
 use Rattle.theory.proofs.First.{none-all, all-none}
 use Rattle.theory.proofs.WrongStep.{wrong-none}
 use Rattle.refusals.specs.declared.fault.Fault.the-variants.{List, Place}
-use Rattle.refusals.specs.Faults.{orElse, faultBy, clear}
+use Rattle.refusals.specs.Faults.{orElse, faultBy}
 use Rattle.refusals.proofs.Faults.{clear-else, clear-by}
 use Rattle.heap.specs.Capacity.{cap}
 use Rattle.heap.specs.Faults as Heaps
@@ -27,7 +27,7 @@ use Rattle.state.specs.Named.{PlaceRight, EntryRight}
 use Rattle.state.proofs.PlaceTest.{ref-self, ref-place, ref-entries}
 
 -- neither of two scans found one
-no-lower : (a b : Option ℕ) → noFault (lower a b) ≡ (noFault a && noFault b)
+no-lower : (a b : Option ℕ) → clear (lower a b) ≡ (clear a && clear b)
 no-lower none b = refl
 no-lower (some p) none = refl
 no-lower (some p) (some q) = refl
@@ -37,12 +37,12 @@ module _ (s : Set) where
   abbrev pub listTest : Bool
   listTest = chainOkb (waitsAt s) (afterAt s) cap (headOf (s .first))
 
-  list-no : noFault (listScan s) ≡ listTest
+  list-no : clear (listScan s) ≡ listTest
   unfolding listScan
   list-no = wrong-none (waitsAt s) (afterAt s) (headOf (s .first)) cap (waits-below s)
 
   -- the four parts of the test
-  tested : Heaps.consistentOf (s .heap) && (listTest && (noFault (firstPlace s) && noFault (entryScan s (s .heap .len)))) ≡ soundOf s
+  tested : Heaps.consistentOf (s .heap) && (listTest && (clear (firstPlace s) && clear (entryScan s (s .heap .len)))) ≡ soundOf s
   unfolding soundOf faultOf placeScan Heaps.consistentOf
   tested =
       let a = Heaps.faultOf (s .heap) in
@@ -54,11 +54,11 @@ module _ (s : Set) where
       ∙ ap (λ (x : Bool). listTest && x) (clear-by Place (placeScan s) ∙ no-lower (firstPlace s) (entryScan s (s .heap .len)))))
 
   -- the scan over the places finds none exactly where all pass
-  ref-places : Ref ((p : ℕ) → p < cap → PlaceRight s p) (noFault (firstPlace s))
+  ref-places : Ref ((p : ℕ) → p < cap → PlaceRight s p) (clear (firstPlace s))
   unfolding firstPlace
   ref-places = go (firstBad (placeOk s) cap 0) refl
     where
-      go : (o : Option ℕ) → firstBad (placeOk s) cap 0 ≡ o → Ref ((p : ℕ) → p < cap → PlaceRight s p) (noFault o)
+      go : (o : Option ℕ) → firstBad (placeOk s) cap 0 ≡ o → Ref ((p : ℕ) → p < cap → PlaceRight s p) (clear o)
       go none e = holds (λ p l. ref-true (ref-place s p) (none-all (placeOk s) cap 0 e p (omega arith) (omega arith)))
       go (some j) e = fails (λ a. none-some (all-none (placeOk s) cap 0 (λ p z l. true-ref (ref-place s p) (a p (omega arith)))) e)
 

@@ -6,7 +6,7 @@ use mathlib.Core.Option.{Option, none, some}
 use Prim.Native.Nat.{ℕ, zero, suc, _<_, _^_}
 use native.Mathlib.Omega.{arith}
 use Rattle.theory.specs.Tests.{Ref, holds, fails}
-use Rattle.theory.specs.Chain.{noFault}
+use Rattle.theory.specs.Chain.{clear}
 use Rattle.theory.proofs.Tests.{ref-by, ref-lt, ref-eq, ref-and, ref-map, true-false}
 use Rattle.theory.proofs.Order.{split}
 use Rattle.heap.specs.Capacity.{cap}
@@ -115,7 +115,7 @@ module _ (s : Set) where
       (λ f. (f .place, (f .generation, f .own)))
 
   -- the scan over the entries finds none exactly where all pass
-  pub ref-entries : (n : ℕ) → Ref ((i : ℕ) → i < n → EntryRight s i) (noFault (entryScan s n))
+  pub ref-entries : (n : ℕ) → Ref ((i : ℕ) → i < n → EntryRight s i) (clear (entryScan s n))
   unfolding entryScan
   ref-entries zero = holds (λ i l. absurd (omega arith))
   ref-entries (suc n) =
@@ -124,7 +124,7 @@ module _ (s : Set) where
       (λ r i l. split i n (λ e. subst (EntryRight s) (sym e) (r .1)) (λ d. r .0 i (omega arith)))
       (λ f. ((λ i l. f i (omega arith)), f n (omega arith))))
     where
-      go : (o : Option ℕ) (b : Bool) → (noFault o && b) ≡ noFault (lower o (cond b none (some (entryAt (s .heap) n .place .0))))
+      go : (o : Option ℕ) (b : Bool) → (clear o && b) ≡ clear (lower o (cond b none (some (entryAt (s .heap) n .place .0))))
       go none true = refl
       go none false = refl
       go (some p) true = refl

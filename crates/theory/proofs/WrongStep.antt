@@ -10,7 +10,7 @@ use lib.Dec.{eqb}
 use lib.ListN.{length}
 use borrow.Author.Tests.{eqb-true, eqb-false, eq-eqb, ne-eqb, not-true, not-false}
 use Rattle.theory.specs.Counting.{count}
-use Rattle.theory.specs.Chain.{walkb, Chain, chainOkb, noFault}
+use Rattle.theory.specs.Chain.{walkb, Chain, chainOkb, clear}
 use Rattle.theory.specs.WrongStep.{metAt, metBefore, stepOk, wrongStep, FineTo, Wrong, missing, stranger, again, WrongAt}
 use Rattle.theory.proofs.Tests.{true-false, none-some, is-false, and-left, and-right, ref-true, true-ref, false-ref}
 use Rattle.theory.proofs.Order.{split}
@@ -85,11 +85,11 @@ module _ (ok : ℕ → Bool) (next : ℕ → Option ℕ) (h : Option ℕ) where
               absurd (omega (arith, fine-few ok next cap below h (n + 1) (steps-fine (n + 1) (n + 1) (omega arith) s)))
 
       -- a chain goes wrong at no step exactly where the test says yes
-      pub wrong-none : noFault (wrongStep ok next cap h) ≡ chainOkb ok next cap h
+      pub wrong-none : clear (wrongStep ok next cap h) ≡ chainOkb ok next cap h
       unfolding chainOkb
       wrong-none = go (wrongStep ok next cap h) refl
         where
-          go : (o : Option ℕ) → wrongStep ok next cap h ≡ o → noFault o ≡ walkb ok next (count ok cap) h
+          go : (o : Option ℕ) → wrongStep ok next cap h ≡ o → clear o ≡ walkb ok next (count ok cap) h
           go none e =
               let q = none-fine e in
               sym (fine-walk ok next (count ok cap) h (q .0) (q .1))
@@ -178,10 +178,10 @@ module _ (ok ok' : ℕ → Bool) (next next' : ℕ → Option ℕ) (a : (y : ℕ
     pub wrong-same : wrongStep ok next cap h ≡ wrongStep ok' next' cap h
     wrong-same = go (wrongStep ok next cap h) refl (wrongStep ok' next' cap h) refl
       where
-        both : noFault (wrongStep ok next cap h) ≡ noFault (wrongStep ok' next' cap h)
+        both : clear (wrongStep ok next cap h) ≡ clear (wrongStep ok' next' cap h)
         both = wrong-none ok next h cap below ∙ chain-same ok ok' next next' a b cap h ∙ sym (wrong-none ok' next' h cap below')
 
         go : (o : Option ℕ) → wrongStep ok next cap h ≡ o → (o' : Option ℕ) → wrongStep ok' next' cap h ≡ o' → o ≡ o'
         go none e none e' = refl
-        go none e (some k) e' = true-false (sym both ∙ ap noFault e) (ap noFault e')
+        go none e (some k) e' = true-false (sym both ∙ ap clear e) (ap clear e')
         go (some k) e o' e' = sym (wrong-only ok' next' h cap below' k (at-same k (wrong-at ok next h cap below k e))) ∙ e'

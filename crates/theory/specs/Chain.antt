@@ -40,7 +40,7 @@ chainOkb ok next cap h = walkb ok next (count ok cap) h
 unfoldable pub chainOf : (ℕ → Bool) → (ℕ → Option ℕ) → ℕ → Option ℕ → List ℕ
 chainOf ok next cap h = nodes next (count ok cap) h
 
--- yes where no fault was found
-abbrev pub noFault : Option ℕ → Bool
-noFault none = true
-noFault (some k) = false
+-- yes where nothing was found
+abbrev pub clear : {A : Type 0} → Option A → Bool
+clear none = true
+clear (some k) = false

@@ -8,7 +8,7 @@ use Rattle.refusals.specs.declared.fault.Fault.{Fault}
 use Rattle.refusals.specs.declared.Refusal.{Refusal}
 use Rattle.refusals.specs.declared.Refusal.the-variants.{Unsound, Closed}
 use Rattle.refusals.specs.Answer.{Answer, accepted, refuse, Nothing, Outcome}
-use Rattle.refusals.specs.Faults.{clear}
+use Rattle.theory.specs.Chain.{clear}
 use Rattle.refusals.proofs.Apart.{refuse-apart}
 use Rattle.refusals.proofs.Faults.{clear-none}
 use Rattle.refusals.proofs.Refusing.{not-both}

@@ -20,7 +20,8 @@ use Rattle.heap.specs.declared.SlotState.the-variants.{Full, Empty}
 use Rattle.heap.specs.declared.Heap.{Heap}
 use Rattle.heap.specs.Rules.{noSlot, entryAt, stateAt, slotAt, putAt, withLen, vacatedOf}
 use Rattle.heap.specs.Faults.{isFull, linkOf, fullAt, emptyAt, nextAt}
-use Rattle.heap.specs.Slab.{Named, Slab}
+use Rattle.heap.specs.Sound.{Placed}
+use Rattle.heap.specs.Slab.{Slab}
 use Rattle.heap.proofs.Slots.Slab.{back, slot-apart, not-full-at, full-at}
 use Rattle.heap.proofs.Slots.Stored.{entry-same, entry-other, put-here, put-there}
 use Rattle.heap.proofs.Slots.Spare.{Spare, Alike, alike-both, alike-spare, len-alike, put-alike, empty-same, empty-tells, full-empty, link-empty}
@@ -63,7 +64,7 @@ module _ (h : Heap) (s : Slab h) (t : Slot) (p : Pos) (b : t .0 < h .made) (full
   gone-next k f = ap (linkOf (h .made)) (sym (gone-stays k f))
 
   -- an entry that stays is named as before
-  gone-named : (q : ℕ) → q < h .len → (q ≡ p .0 → ⊥) → Named gone q
+  gone-named : (q : ℕ) → q < h .len → (q ≡ p .0 → ⊥) → Placed gone q
   unfolding vacatedOf
   gone-named q c f = (s .forth q c .0, gone-stays (slotAt h q) (not-own q c f) ∙ s .forth q c .1)
 
@@ -129,10 +130,10 @@ module _ (h : Heap) (s : Slab h) (t : Slot) (p : Pos) (b : t .0 < h .made) (full
         (put-alike short (p .0) (entryAt h (h .len - 1)) slot-in
         (full-at short (slotAt h (h .len - 1)) _ (gone-last .1)))
       where
-        gone-last : Named gone (h .len - 1)
+        gone-last : Placed gone (h .len - 1)
         gone-last = gone-named (h .len - 1) last-in (λ e. f (sym e))
 
-    fill-forth : (q : ℕ) → q < h .len - 1 → Named (moveLast h t p) q
+    fill-forth : (q : ℕ) → q < h .len - 1 → Placed (moveLast h t p) q
     unfolding vacatedOf putAt
     fill-forth q c =
         by-ref (ref-eq q (p .0))

@@ -9,14 +9,14 @@ use Rattle.heap.specs.declared.SlabSlot.{SlabSlot}
 use Rattle.heap.specs.declared.SlotState.the-variants.{Full}
 use Rattle.heap.specs.declared.Heap.{Heap}
 use Rattle.heap.specs.Rules.{noSlot, entryAt, stateAt, slotAt, putAt}
-use Rattle.heap.specs.Slab.{Named}
+use Rattle.heap.specs.Sound.{Placed}
 
 -- an entry's slot number
 abbrev pub slotOf : Entry → ℕ
 slotOf e = e .slot .0
 
 -- a position whose entry has the slot q, which names it
-named-by : (h : Heap) (p q : ℕ) → slotAt h p ≡ q → q < h .made → stateAt h q ≡ Full (record { 0 = p }) → Named h p
+named-by : (h : Heap) (p q : ℕ) → slotAt h p ≡ q → q < h .made → stateAt h q ≡ Full (record { 0 = p }) → Placed h p
 named-by h p q e b f = (rw e b, ap (stateAt h) e ∙ f)
 
 module _ (h : Heap) (i : ℕ) (e : Entry) where
@@ -51,11 +51,11 @@ module _ (h : Heap) (i : ℕ) (e : Entry) where
   long-slots = simp length-set
 
   -- the position and the entry's slot name each other
-  pub put-here : i < length (h .entries) → slotOf e < length (h .slots) → slotOf e < h .made → Named (putAt h i e) i
+  pub put-here : i < length (h .entries) → slotOf e < length (h .slots) → slotOf e < h .made → Placed (putAt h i e) i
   unfolding putAt
   put-here a b c = named-by (putAt h i e) i (slotOf e) (ap slotOf (entry-same a)) c (state-same b)
 
   -- another position, with another slot, is named as before
-  pub put-there : (j : ℕ) → (j ≡ i → ⊥) → (slotAt h j ≡ slotOf e → ⊥) → Named h j → Named (putAt h i e) j
+  pub put-there : (j : ℕ) → (j ≡ i → ⊥) → (slotAt h j ≡ slotOf e → ⊥) → Placed h j → Placed (putAt h i e) j
   unfolding putAt
   put-there j f g n = named-by (putAt h i e) j (slotAt h j) (ap slotOf (entry-other j f)) (n .0) (state-other (slotAt h j) g ∙ n .1)

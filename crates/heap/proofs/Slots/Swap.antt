@@ -9,7 +9,8 @@ use Rattle.theory.proofs.Tests.{by-ref, ref-eq}
 use Rattle.heap.specs.declared.Heap.{Heap}
 use Rattle.heap.specs.Rules.{entryAt, slotAt, putAt, swapAt}
 use Rattle.heap.specs.Faults.{fullAt}
-use Rattle.heap.specs.Slab.{Named, Slab}
+use Rattle.heap.specs.Sound.{Placed}
+use Rattle.heap.specs.Slab.{Slab}
 use Rattle.heap.proofs.Slots.Slab.{slot-apart, full-at}
 use Rattle.heap.proofs.Slots.Stored.{slotOf, entry-same, entry-other, long-entries, long-slots, put-here, put-there}
 use Rattle.heap.proofs.Slots.Spare.{Alike, alike-both, alike-spare, put-alike}
@@ -52,7 +53,7 @@ module _ (h : Heap) (s : Slab h) (i j : ℕ) (a : i < h .len) (b : j < h .len) w
   unfolding swapAt
   swap-other k f g = entry-other first j (entryAt h i) k g ∙ entry-other h i (entryAt h j) k f
 
-  swap-forth : (p : ℕ) → p < h .len → Named (swapAt h i j) p
+  swap-forth : (p : ℕ) → p < h .len → Placed (swapAt h i j) p
   unfolding swapAt putAt
   swap-forth p c =
       by-ref (ref-eq p j)

@@ -7,7 +7,7 @@ use Rattle.refusals.specs.declared.fault.Fault.{Fault}
 use Rattle.refusals.specs.declared.Refusal.{Refusal}
 use Rattle.refusals.specs.declared.Refusal.the-variants.{Unsound}
 use Rattle.refusals.specs.Answer.{Answer, accepted, refuse, Outcome, kept}
-use Rattle.refusals.specs.Faults.{clear}
+use Rattle.theory.specs.Chain.{clear}
 use Rattle.refusals.proofs.Refusing.{any-refusal, not-both}
 use Rattle.heap.specs.declared.Entry.{Entry}
 use Rattle.heap.specs.declared.Heap.{Heap}

@@ -6,7 +6,7 @@ use mathlib.Core.Bool.{Bool, true, false, cond}
 use mathlib.Core.Option.{Option, none, some}
 use Prim.Native.Nat.{ℕ, _-_, _≤_, _<_}
 use native.Mathlib.Omega.{arith}
-use Rattle.theory.specs.Chain.{unless}
+use Rattle.theory.specs.Chain.{unless, clear}
 use Rattle.theory.specs.First.{firstBad}
 use Rattle.theory.specs.WrongStep.{wrongStep}
 use Rattle.theory.proofs.Tests.{none-some, true-false, ref-true, true-ref}
@@ -14,10 +14,11 @@ use Rattle.theory.proofs.First.{none-all, some-first}
 use Rattle.theory.proofs.WrongStep.{wrong-at}
 use Rattle.refusals.specs.declared.fault.Fault.{Fault}
 use Rattle.refusals.specs.declared.fault.Fault.the-variants.{Count, Position, Order, FreeChain}
-use Rattle.refusals.specs.Faults.{orElse, faultBy, clear}
+use Rattle.refusals.specs.Faults.{orElse, faultBy}
 use Rattle.heap.specs.declared.Heap.{Heap}
 use Rattle.heap.specs.Faults.{emptyAt, nextAt, countOk, positionOk, orderOk, countFault, positionFault, orderFault, chainFault, faultOf}
-use Rattle.heap.specs.Named.{Counts, Placed, Ordered, PlacedTo, OrderedTo, Named}
+use Rattle.heap.specs.Sound.{Placed, Ordered}
+use Rattle.heap.specs.Named.{Counts, PlacedTo, OrderedTo, Named}
 use Rattle.heap.proofs.Soundness.SoundFacts.{empty-made}
 use Rattle.heap.proofs.Testing.Test.{ref-count, place-of, order-of}
 use Rattle.heap.proofs.Testing.FaultLaws.{position-yes, order-not}

@@ -4,7 +4,7 @@ use mathlib.Core.Path.{_≡_, refl, sym, ap, _∙_}
 use mathlib.Core.Option.{some}
 use Prim.Native.Nat.{ℕ, _<_}
 use native.Mathlib.Omega.{arith}
-use Rattle.theory.specs.Chain.{unless, noFault}
+use Rattle.theory.specs.Chain.{unless, clear}
 use Rattle.theory.specs.WrongStep.{WrongAt, wrongStep}
 use Rattle.theory.proofs.Tests.{true-false, by-ref, ref-eq, ref-le}
 use Rattle.theory.proofs.WrongStep.{wrong-only, wrong-none}
@@ -71,6 +71,6 @@ module _ (h : Heap) where
   sound-unnamed s (Order i) n = n .5 (s .ordered i (n .3) (n .4))
   sound-unnamed s (FreeChain k) n =
       true-false (wrong-none (emptyAt h) (nextAt h) (unless (h .made) (h .free .0)) (h .made) (empty-made h) ∙ s .chained)
-      (ap noFault (step-is k (n .3)))
+      (ap clear (step-is k (n .3)))
   sound-unnamed s (List k) n = n
   sound-unnamed s (Place k) n = n

@@ -11,7 +11,7 @@ use borrow.Author.Tests.{ltb-true, eqb-true, not-true}
 use Rattle.theory.specs.Tests.{Ref, holds, fails}
 use Rattle.theory.specs.Order.{parent}
 use Rattle.theory.specs.Counting.{count}
-use Rattle.theory.specs.Chain.{unless, chainOkb, noFault}
+use Rattle.theory.specs.Chain.{unless, chainOkb, clear}
 use Rattle.theory.specs.First.{firstBad}
 use Rattle.theory.specs.WrongStep.{wrongStep}
 use Rattle.theory.proofs.Tests.{ref-by, ref-le, ref-eq, ref-and, ref-map, ref-true, true-false, none-some, and-left, and-right}
@@ -19,7 +19,7 @@ use Rattle.theory.proofs.First.{none-all, all-none}
 use Rattle.theory.proofs.WrongStep.{wrong-none}
 use Rattle.refusals.specs.declared.fault.Fault.{Fault}
 use Rattle.refusals.specs.declared.fault.Fault.the-variants.{Count, Position, Order, FreeChain}
-use Rattle.refusals.specs.Faults.{orElse, clear}
+use Rattle.refusals.specs.Faults.{orElse}
 use Rattle.refusals.proofs.Faults.{clear-else, clear-by}
 use Rattle.heap.specs.Capacity.{cap}
 use Rattle.heap.specs.declared.SlotState.{SlotState}
@@ -32,10 +32,10 @@ use Rattle.heap.proofs.Soundness.SoundFacts.{empty-made}
 use Rattle.heap.proofs.Testing.FaultLaws.{position-yes, order-not}
 
 -- a scan finds none exactly where all pass
-ref-all : (ok : ℕ → Bool) (n k : ℕ) → Ref ((i : ℕ) → k ≤ i → i < k + n → ok i ≡ true) (noFault (firstBad ok n k))
+ref-all : (ok : ℕ → Bool) (n k : ℕ) → Ref ((i : ℕ) → k ≤ i → i < k + n → ok i ≡ true) (clear (firstBad ok n k))
 ref-all ok n k = go (firstBad ok n k) refl
   where
-    go : (o : Option ℕ) → firstBad ok n k ≡ o → Ref ((i : ℕ) → k ≤ i → i < k + n → ok i ≡ true) (noFault o)
+    go : (o : Option ℕ) → firstBad ok n k ≡ o → Ref ((i : ℕ) → k ≤ i → i < k + n → ok i ≡ true) (clear o)
     go none e = holds (none-all ok n k e)
     go (some j) e = fails (λ a. none-some (all-none ok n k a) e)
 

@@ -9,7 +9,7 @@ use lib.Dec.{ltb, eqb}
 use Rattle.theory.proofs.Tests.{ref-lt, ref-eq}
 use Rattle.refusals.specs.declared.fault.Fault.{Fault}
 use Rattle.refusals.specs.declared.Refusal.the-variants.{Unsound, Full, VacantSlot}
-use Rattle.refusals.specs.Faults.{clear}
+use Rattle.theory.specs.Chain.{clear}
 use Rattle.refusals.specs.Answer.{Answer, accepted, refuse, Outcome, kept}
 use Rattle.heap.specs.Capacity.{cap}
 use Rattle.heap.specs.declared.Slot.{Slot}

@@ -9,7 +9,7 @@ use native.Mathlib.Omega.{arith}
 use lib.Dec.{ltb, leb, eqb}
 use Rattle.theory.specs.Order.{parent}
 use Rattle.theory.specs.Counting.{count}
-use Rattle.theory.specs.Chain.{unless}
+use Rattle.theory.specs.Chain.{unless, clear}
 use Rattle.theory.specs.First.{firstBad}
 use Rattle.theory.specs.WrongStep.{wrongStep}
 use Rattle.theory.proofs.Tests.{ref-lt}
@@ -17,7 +17,7 @@ use Rattle.theory.proofs.First.{first-same}
 use Rattle.theory.proofs.Counting.{count-same}
 use Rattle.theory.proofs.WrongStep.{wrong-same}
 use Rattle.refusals.specs.declared.fault.Fault.the-variants.{Count, Position, Order, FreeChain}
-use Rattle.refusals.specs.Faults.{orElse, faultBy, clear}
+use Rattle.refusals.specs.Faults.{orElse, faultBy}
 use Rattle.heap.specs.Capacity.{cap}
 use Rattle.heap.specs.declared.SlotState.{SlotState}
 use Rattle.heap.specs.declared.Heap.{Heap}

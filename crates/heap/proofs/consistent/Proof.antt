@@ -2,7 +2,8 @@
 -- Assumes nothing.
 use mathlib.Core.Path.{sym, ap, _∙_}
 use borrow.Author.Needs.{needs}
-use Rattle.refusals.specs.Faults.{saidVerdict, clear}
+use Rattle.theory.specs.Chain.{clear}
+use Rattle.refusals.specs.Faults.{saidVerdict}
 use Rattle.heap.specs.Faults.{consistentOf}
 use Rattle.heap.proofs.consistent.Statement.{statement}
 use Rattle.heap.proofs.consistent.Tie as tie

@@ -12,7 +12,7 @@ use borrow.Author.Tests.{leb-true}
 use Rattle.refusals.specs.declared.fault.Fault.{Fault}
 use Rattle.refusals.specs.declared.Refusal.the-variants.{Unsound, Closed, NotFired, ShortList}
 use Rattle.refusals.specs.Answer.{Answer, accepted, refused, unsound, isAccepted, Outcome, kept}
-use Rattle.refusals.specs.Faults.{clear}
+use Rattle.theory.specs.Chain.{clear}
 use Rattle.heap.specs.Capacity.{cap}
 use Rattle.word.specs.Rules as Word
 use Rattle.interval.specs.declared.Policy.{Policy}

@@ -13,7 +13,7 @@ use Rattle.theory.proofs.Tests.{none-some}
 use Rattle.refusals.specs.declared.fault.Fault.{Fault}
 use Rattle.refusals.specs.declared.Refusal.the-variants.{Unsound, Closed, DeadHandle}
 use Rattle.refusals.specs.Answer.{Answer, accepted, refused, unsound, refuse}
-use Rattle.refusals.specs.Faults.{clear}
+use Rattle.theory.specs.Chain.{clear}
 use Rattle.refusals.proofs.Refusing.{not-both, never}
 use Rattle.refusals.specs.Times.{signed, differenceOf}
 use Rattle.heap.specs.Capacity.{cap}

@@ -7,7 +7,7 @@ use Rattle.theory.proofs.Tests.{ref-true}
 use Rattle.refusals.specs.declared.fault.Fault.{Fault}
 use Rattle.refusals.specs.declared.Refusal.the-variants.{Unsound, Closed, DeadHandle}
 use Rattle.refusals.specs.Answer.{Answer, refuse, Outcome, kept}
-use Rattle.refusals.specs.Faults.{clear}
+use Rattle.theory.specs.Chain.{clear}
 use Rattle.heap.proofs.UnusedRoom.InUseWalks.{choose-ref}
 use Rattle.state.specs.declared.Set.{Set}
 use Rattle.state.specs.declared.Handle.{Handle}

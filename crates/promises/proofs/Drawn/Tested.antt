@@ -13,7 +13,8 @@ use Rattle.theory.specs.Tests.{bit}
 use Rattle.theory.proofs.Tests.{ref-le, ref-true, is-false, and-left, and-right, true-false}
 use Rattle.refusals.specs.declared.fault.Fault.{Fault}
 use Rattle.refusals.specs.declared.fault.Fault.the-variants as Where
-use Rattle.refusals.specs.Faults.{orElse, faultBy, clear}
+use Rattle.theory.specs.Chain.{clear}
+use Rattle.refusals.specs.Faults.{orElse, faultBy}
 use Rattle.heap.specs.Capacity.{cap}
 use Rattle.heap.specs.Rules.{noEntry}
 use Rattle.heap.specs.Faults as Heap

@@ -16,7 +16,7 @@ use Rattle.theory.proofs.First.{none-all, all-none}
 use Rattle.theory.proofs.Tests.{ref-lt, ref-le, ref-eq, true-ref, false-ref, by-ref, is-false, none-some}
 use Rattle.refusals.specs.declared.fault.Fault.{Fault}
 use Rattle.refusals.specs.declared.Refusal.the-variants.{Unsound}
-use Rattle.refusals.specs.Faults.{clear}
+use Rattle.theory.specs.Chain.{clear}
 use Rattle.refusals.specs.Answer.{Answer, accepted, refused, Outcome, unsound}
 use Rattle.refusals.specs.Times.{timely}
 use Rattle.heap.specs.Capacity.{cap}

@@ -9,7 +9,7 @@ use lib.Dec.{ltb, eqb}
 use borrow.Author.Tests.{lt-ltb}
 use Rattle.theory.proofs.Tests.{ref-lt, ref-eq, true-ref, false-ref, by-ref, cond-ref}
 use Rattle.refusals.specs.declared.fault.Fault.{Fault}
-use Rattle.refusals.specs.Faults.{clear}
+use Rattle.theory.specs.Chain.{clear}
 use Rattle.refusals.specs.Answer.{accepted, refused, Outcome, kept}
 use Rattle.heap.specs.Capacity.{cap}
 use Rattle.heap.specs.declared.Slot.{Slot}

@@ -17,7 +17,7 @@ use Rattle.theory.proofs.Least.{Found, Told, least-told}
 use Rattle.theory.proofs.Tests.{ref-lt, ref-le, true-ref, false-ref, by-ref, ref-true, is-false, none-some, true-false, and-left, and-right}
 use Rattle.refusals.specs.declared.Refusal.the-variants.{Unsound, Closed}
 use Rattle.refusals.specs.declared.fault.Fault.{Fault}
-use Rattle.refusals.specs.Faults.{clear}
+use Rattle.theory.specs.Chain.{clear}
 use Rattle.refusals.specs.Answer.{Answer, accepted, refused, refuse, Outcome, kept, unsound}
 use Rattle.refusals.specs.Times.{signed}
 use Rattle.refusals.proofs.Differences.{minus-above, minus-below, above-fits, above-unfit, below-fits, below-unfit}

@@ -2,7 +2,8 @@
 -- Assumes nothing.
 use mathlib.Core.Path.{sym, ap, _∙_}
 use borrow.Author.Needs.{needs}
-use Rattle.refusals.specs.Faults.{saidVerdict, clear}
+use Rattle.theory.specs.Chain.{clear}
+use Rattle.refusals.specs.Faults.{saidVerdict}
 use Rattle.state.specs.Faults.{soundOf}
 use Rattle.state.proofs.sound.Statement.{statement}
 use Rattle.state.proofs.sound.Tie as tie
