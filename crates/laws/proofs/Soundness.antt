@@ -10,3 +10,4 @@ pub mod Closing
 pub mod Unlisting
 pub mod ClosedSound
 pub mod StepSound
+pub mod Unguarded

@@ -7,3 +7,4 @@ pub mod Reports
 pub mod EntryOf
 pub mod Rooms
 pub mod Pending
+pub mod Unguarded

@@ -14,11 +14,12 @@ use Rattle.moves.specs.Rules.{touchedOf, taken, lowestFree, settledOf, drainFro
 use Rattle.timers.specs.Calls.{liveAt}
 use Rattle.promises.specs.Turns.{note, next, from}
 use Rattle.promises.specs.Engine.{ours}
-use Rattle.promises.specs.Untested.{passing, untested}
+use Rattle.laws.specs.Unguarded.{unguarded}
+use Rattle.promises.specs.Untested.{untested}
 use Rattle.promises.specs.Tracing.{wrong}
 use Rattle.promises.specs.Traces.{traces}
-use Rattle.promises.proofs.Untested.{wrong-same}
+use Rattle.promises.proofs.Untested.{traces-same}
 
 pub traces-right : wrong ours traces ≡ []
-unfolding note next from upd ℕ-discrete handle-discrete filterMap Occurs.has passing liveAt touchedOf taken lowestFree settledOf drainFrom dueBy rungOf ringFrom advancedOf unlistFrom unlistedOf poppedOf emptyFrom closedOf pushSound removeSound popSound peekSound pushedOf removedOf filledOf vacatedOf addedOf takenOf downFrom childOf upFrom risesAt swapAt putAt firstBad
-traces-right = let e : wrong untested traces ≡ [] = refl in sym (wrong-same traces) ∙ e
+unfolding note next from upd ℕ-discrete handle-discrete filterMap Occurs.has unguarded liveAt touchedOf taken lowestFree settledOf drainFrom dueBy rungOf ringFrom advancedOf unlistFrom unlistedOf poppedOf emptyFrom closedOf pushSound removeSound popSound peekSound pushedOf removedOf filledOf vacatedOf addedOf takenOf downFrom childOf upFrom risesAt swapAt putAt firstBad
+traces-right = let e : wrong untested traces ≡ [] = refl in sym (traces-same traces) ∙ e

@@ -10,10 +10,10 @@ use Rattle.heap.specs.Faults.{fullAt, emptyAt, nextAt, countOk, positionOk, ord
 use Rattle.heap.specs.Calls.{guardOf, pushSound, removeSound, popSound, peekSound}
 use Rattle.moves.specs.Rules.{touchedOf, taken, lowestFree, settledOf, drainFrom, dueBy, rungOf, ringFrom, advancedOf}
 use Rattle.timers.specs.Calls.{step, liveAt}
-use Rattle.promises.specs.Untested.{passing}
+use Rattle.laws.specs.Unguarded.{unguarded}
 use Rattle.promises.specs.Bench.{rows, wrong}
 use Rattle.promises.proofs.Untested.{rows-same}
 
 pub bench-sheet : wrong step rows ≡ []
-unfolding passing liveAt touchedOf taken lowestFree settledOf drainFrom dueBy rungOf ringFrom advancedOf guardOf pushSound removeSound popSound peekSound pushedOf removedOf filledOf vacatedOf addedOf takenOf downFrom childOf upFrom risesAt swapAt putAt consistentOf faultOf countFault positionFault orderFault chainFault countOk positionOk orderOk nextAt emptyAt fullAt firstBad wrongStep stepOk metAt metBefore count
-bench-sheet = let e : wrong passing rows ≡ [] = refl in sym (rows-same rows) ∙ e
+unfolding unguarded liveAt touchedOf taken lowestFree settledOf drainFrom dueBy rungOf ringFrom advancedOf guardOf pushSound removeSound popSound peekSound pushedOf removedOf filledOf vacatedOf addedOf takenOf downFrom childOf upFrom risesAt swapAt putAt consistentOf faultOf countFault positionFault orderFault chainFault countOk positionOk orderOk nextAt emptyAt fullAt firstBad wrongStep stepOk metAt metBefore count
+bench-sheet = let e : wrong unguarded rows ≡ [] = refl in sym (rows-same rows) ∙ e

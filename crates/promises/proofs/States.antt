@@ -10,7 +10,7 @@ use lib.ListN.{length}
 use Rattle.state.specs.declared.Waiting.the-variants.{No}
 use Rattle.heap.specs.Capacity.{cap}
 use Rattle.heap.specs.Faults.{countOk, countFault, faultOf, consistentOf}
-use Rattle.promises.specs.States.{heapOf, full, empty, entry, live, in-slot, entriesFrom, Row, row, right, rows, overfull, few, wrong}
+use Rattle.promises.specs.States.{heapOf, full, empty, entry, live, in-slot, entriesFrom, Row, row, right, rows, brimful, few, wrong}
 use Rattle.promises.proofs.Drawn.Small.{few-right}
 use Rattle.promises.proofs.Drawn.Numbered.{numbered-length}
 use Rattle.promises.proofs.Drawn.Full.{fullOf}
@@ -42,8 +42,8 @@ emptied-right =
     both (none-tested (emptied cap) (omega arith) (omega arith) (omega (arith, q)) emptied-none)
     (tested-by (emptied (cap + 1)) (omega arith) (omega arith) (omega (arith, q)) (12 ∷ []) refl emptied-some)
 
-overfull-right : wrong overfull ≡ []
-overfull-right = wrong-right full-row (emptied-row ∷ []) full-right (wrong-right emptied-row [] emptied-right refl)
+brimful-right : wrong brimful ≡ []
+brimful-right = wrong-right full-row (emptied-row ∷ []) full-right (wrong-right emptied-row [] emptied-right refl)
 
 pub states-right : wrong rows ≡ []
-states-right = wrong-both overfull few overfull-right (wrong-few few few-right)
+states-right = wrong-both brimful few brimful-right (wrong-few few few-right)

@@ -12,40 +12,19 @@ use Rattle.refusals.specs.Answer.{Answer, Outcome, accepted}
 use Rattle.heap.specs.Capacity.{cap}
 use Rattle.state.specs.declared.Set.{Set}
 use Rattle.state.specs.State.{freshOf}
-use Rattle.state.proofs.Test.{sound-tells}
 use Rattle.timers.specs.declared.Call.{Call}
 use Rattle.timers.specs.declared.Call.the-variants as C
-use Rattle.timers.specs.Calls.{Value, wake, Lent, lent, guarded, with-list, step, addOf, resetOf, cancelOf, drainOf, advanceOf, turnOf, nextWakeOf, pollOf, closeOf, tickAt, restartAt}
-use Rattle.timers.proofs.Guarding.{sound-none}
+use Rattle.timers.specs.Calls.{Value, wake, Lent, lent, step}
 use Rattle.laws.specs.Words.{Fit}
-use Rattle.laws.proofs.Soundness.CallsSound.{step-words}
-use Rattle.laws.proofs.Soundness.StepSound.{step-sound, fresh-fit}
+use Rattle.laws.specs.Unguarded.{unguarded}
+use Rattle.laws.proofs.Soundness.StepSound.{step-fit, fresh-fit}
+use Rattle.laws.proofs.Soundness.Unguarded.{step-same}
 use Rattle.promises.specs.Bench as Bench
 use Rattle.promises.specs.Bench.{sameNumbers, code, Case, word, tick, heap, set, Row}
 use Rattle.promises.specs.Turns.{Run, blank, seen, note, next, from}
 use Rattle.promises.specs.Engine.{ours, handed}
-use Rattle.promises.specs.Untested.{passing, untested}
+use Rattle.promises.specs.Untested.{untested}
 use Rattle.promises.specs.Tracing.{Made, Trace, callsOf, handlesCode, timeCode, lined, addedIn, leastIn, answered, ended, right, wrong}
-
--- a call on such a set answers as if there were no test
-module _ (s : Set) (f : Fit s) where
-  passes : {S : Type 0} (k : S) (o : Outcome S Value) → guarded s k o ≡ o
-  unfolding guarded
-  passes k o = rw (sound-none s (sound-tells s (f .sound))) refl
-
-  pub step-same : (c : Call) (l : List ℕ) → step s c l ≡ passing s c l
-  unfolding step addOf resetOf cancelOf drainOf advanceOf turnOf nextWakeOf pollOf closeOf tickAt restartAt passing
-  step-same (C.Add d) l = ap (with-list l) (passes s _)
-  step-same (C.Reset h d) l = ap (with-list l) (passes s _)
-  step-same (C.Cancel h) l = ap (with-list l) (passes s _)
-  step-same C.Drain l = ap (with-list l) (passes s _)
-  step-same (C.Advance N) l = passes (lent s l) _
-  step-same (C.Turn N) l = passes (lent s l) _
-  step-same C.NextWake l = ap (with-list l) (passes s _)
-  step-same (C.Poll h) l = ap (with-list l) (passes s _)
-  step-same C.Close l = ap (with-list l) (passes s _)
-  step-same (C.Tick h p period N) l = ap (with-list l) (passes s _)
-  step-same (C.Restart h period N) l = ap (with-list l) (passes s _)
 
 -- a moment of the engine, as one of the other
 abbrev as-untested : Run ours → Run untested
@@ -58,8 +37,7 @@ next-same r f c l = ap (λ (o : Outcome Lent Value). record { state = o .state .
 
 next-fit : (r : Run ours) → Fit (r .state) → (c : Call) (l : List ℕ) → Fit (next ours r c l .state)
 unfolding next
-next-fit r f c l =
-    record { sound = step-sound (r .state) (f .sound) (f .words) c l; words = step-words (r .state) (f .words) c l }
+next-fit r f c l = step-fit (r .state) f c l
 
 -- the answers of a trace are the same
 answered-same : (r : Run ours) → Fit (r .state) → (ms : List Made) → answered untested (as-untested r) ms ≡ answered ours r ms
@@ -106,28 +84,28 @@ right-same t =
     λ i. a i && b i
 
 -- SO the same traces are wrong
-pub wrong-same : (ts : List Trace) → wrong untested ts ≡ wrong ours ts
-wrong-same [] = refl
-wrong-same (t ∷ ts) = λ i. cond (right-same t i) (wrong-same ts i) (t .number ∷ wrong-same ts i)
+pub traces-same : (ts : List Trace) → wrong untested ts ≡ wrong ours ts
+traces-same [] = refl
+traces-same (t ∷ ts) = λ i. cond (right-same t i) (traces-same ts i) (t .number ∷ traces-same ts i)
 
 -- THE SAME of calls on a set and a lent list, whatever else is asked of them
-calls-same : (s : Lent) → Fit (s .set) → (cs : List Call) (ws : List (Answer Value)) → Bench.answered passing s cs ws ≡ Bench.answered step s cs ws
+calls-same : (s : Lent) → Fit (s .set) → (cs : List Call) (ws : List (Answer Value)) → Bench.answered unguarded s cs ws ≡ Bench.answered step s cs ws
 calls-same s f [] [] = refl
 calls-same s f [] (a ∷ ws) = refl
 calls-same s f (c ∷ cs) [] = refl
 calls-same s f (c ∷ cs) (a ∷ ws) =
     let e = sym (step-same (s .set) f c (s .list)) in
     let o = step (s .set) c (s .list) in
-    let rest = ap (λ (x : Outcome Lent Value). Bench.answered passing (x .state) cs ws) e
-    ∙ calls-same (o .state) (record { sound = step-sound (s .set) (f .sound) (f .words) c (s .list); words = step-words (s .set) (f .words) c (s .list) }) cs ws in
+    let rest = ap (λ (x : Outcome Lent Value). Bench.answered unguarded (x .state) cs ws) e
+    ∙ calls-same (o .state) (step-fit (s .set) f c (s .list)) cs ws in
     λ t. sameNumbers (code (e t .answer)) (code a) && rest t
 
-row-same : (x : Case) → Bench.right passing x ≡ Bench.right step x
+row-same : (x : Case) → Bench.right unguarded x ≡ Bench.right step x
 row-same (word w v) = refl
 row-same (tick p T period N d) = refl
 row-same (set cs ws) = calls-same (lent freshOf (replicate cap 0)) fresh-fit cs ws
 row-same (heap cs es ss n) = refl
 
-pub rows-same : (rs : List Row) → Bench.wrong passing rs ≡ Bench.wrong step rs
+pub rows-same : (rs : List Row) → Bench.wrong unguarded rs ≡ Bench.wrong step rs
 rows-same [] = refl
 rows-same (r ∷ rs) = λ i. cond (row-same (r .asked) i) (rows-same rs i) (r .number ∷ rows-same rs i)

@@ -30,7 +30,7 @@ use Rattle.timers.specs.Values.{Value, nothing, handle, counts, wake, polled, t
 use Rattle.timers.specs.Calls as Set
 use Rattle.promises.specs.Bench.{_with-use_, sameNumbers, code}
 use Rattle.promises.specs.Turns.{Ledger, blank, begun, at, owed, note, takenIn, Least, next, from, run, Bounded, Meets, every}
-use Rattle.promises.specs.Untested.{passing}
+use Rattle.laws.specs.Unguarded.{unguarded}
 use Rattle.promises.proofs.Meeting.{wake-after-turn}
 use Rattle.promises.specs.Useless.{refusing, complaining, full, deaf, clogged, unclosed, nameless, repeating, reopened, freeing, pending, eager, idle, undrained, roomless, mute, stuck, heedless, asleep, dozing, restless, scribbling, hasty}
 
@@ -72,7 +72,7 @@ full-fails m = unlike (refused 4) (accepted (handle (0 with-use 0))) refl (m [] 
 
 -- add 10, cancel 0:0: 0:0 is live, and the cancel is refused
 pub deaf-fails : Meets deaf every → ⊥
-unfolding note next from upd ℕ-discrete handle-discrete passing touchedOf taken lowestFree firstBad
+unfolding note next from upd ℕ-discrete handle-discrete unguarded touchedOf taken lowestFree firstBad
 deaf-fails m = unlike (refused 3) (accepted nothing) refl (m ((C.Add 10, []) ∷ []) refl .answers (C.Cancel (0 with-use 0)) [] refl)
 
 -- drain: it is refused, and nothing was closed
@@ -87,72 +87,72 @@ unclosed-fails m = unlike (refused 2) (accepted nothing) refl (m [] refl .answer
 
 -- add 10: it must be given 0:0, and is given no handle
 pub nameless-fails : Meets nameless every → ⊥
-unfolding from takenIn passing taken lowestFree firstBad
+unfolding from takenIn unguarded taken lowestFree firstBad
 nameless-fails m = unlike (accepted nothing) (accepted (handle (0 with-use 0))) refl (m [] refl .answers (C.Add 10) [] refl)
 
 -- add 10, add 20: the second must be given 1:0, and is given 0:0
 pub repeating-fails : Meets repeating every → ⊥
-unfolding note next from upd ℕ-discrete handle-discrete takenIn passing touchedOf taken lowestFree firstBad
+unfolding note next from upd ℕ-discrete handle-discrete takenIn unguarded touchedOf taken lowestFree firstBad
 repeating-fails m =
     unlike (accepted (handle (0 with-use 0))) (accepted (handle (1 with-use 0))) refl
     (m ((C.Add 10, []) ∷ []) refl .answers (C.Add 20) [] refl)
 
 -- close, add 10: it must be refused with 2, and is given 0:0
 pub reopened-fails : Meets reopened every → ⊥
-unfolding note next from passing taken lowestFree firstBad unlistFrom closedOf
+unfolding note next from unguarded taken lowestFree firstBad unlistFrom closedOf
 reopened-fails m = unlike (accepted (handle (0 with-use 0))) (refused 2) refl (m ((C.Close, []) ∷ []) refl .answers (C.Add 10) [] refl)
 
 -- add 10, cancel 0:0, add 20: it must be given 1:0, since 0:0 was not drained, and is given 0:1
 pub freeing-fails : Meets freeing every → ⊥
-unfolding note next from upd ℕ-discrete handle-discrete takenIn passing touchedOf taken lowestFree firstBad Set.liveAt settledOf drainFrom
+unfolding note next from upd ℕ-discrete handle-discrete takenIn unguarded touchedOf taken lowestFree firstBad Set.liveAt settledOf drainFrom
 freeing-fails m =
     unlike (accepted (handle (0 with-use 1))) (accepted (handle (1 with-use 0))) refl
     (m ((C.Add 10, []) ∷ (C.Cancel (0 with-use 0), []) ∷ []) refl .answers (C.Add 20) [] refl)
 
 -- add 10, turn 10, poll 0:0: it must be fired, and is pending
 pub pending-fails : Meets pending every → ⊥
-unfolding note next from upd ℕ-discrete handle-discrete filterMap Occurs.has passing Set.liveAt touchedOf taken lowestFree settledOf drainFrom dueBy rungOf ringFrom advancedOf pushSound removeSound popSound pushedOf removedOf filledOf vacatedOf addedOf takenOf upFrom putAt firstBad
+unfolding note next from upd ℕ-discrete handle-discrete filterMap Occurs.has unguarded Set.liveAt touchedOf taken lowestFree settledOf drainFrom dueBy rungOf ringFrom advancedOf pushSound removeSound popSound pushedOf removedOf filledOf vacatedOf addedOf takenOf upFrom putAt firstBad
 pending-fails m =
     unlike (accepted (polled 0)) (accepted (polled 1)) refl
     (m ((C.Add 10, room) ∷ (C.Turn 10, room) ∷ []) refl .answers (C.Poll (0 with-use 0)) [] refl)
 
 -- add 10, tick 0:0: it has not fired, so the tick must be refused with 10, and is taken
 pub eager-fails : Meets eager every → ⊥
-unfolding note next from upd ℕ-discrete handle-discrete passing touchedOf taken lowestFree firstBad Set.liveAt
+unfolding note next from upd ℕ-discrete handle-discrete unguarded touchedOf taken lowestFree firstBad Set.liveAt
 eager-fails m =
     unlike (accepted (time 10)) (refused 10) refl
     (m ((C.Add 10, []) ∷ []) refl .answers (C.Tick (0 with-use 0) Burst 5 7) [] refl)
 
 -- turn 0 with no words: it must be refused with 5, and is taken
 pub roomless-fails : Meets roomless every → ⊥
-unfolding from passing drainFrom ringFrom advancedOf firstBad
+unfolding from unguarded drainFrom ringFrom advancedOf firstBad
 roomless-fails m = unlike (accepted (counts 0 0)) (refused 5) refl (m [] refl .answers (C.Turn 0) [] refl)
 
 -- add 10, turn 10: nothing is reported, though 0:0 is owed and due
 pub mute-fails : Meets mute every → ⊥
-unfolding note next from upd ℕ-discrete handle-discrete filterMap Occurs.times passing touchedOf taken lowestFree firstBad
+unfolding note next from upd ℕ-discrete handle-discrete filterMap Occurs.times unguarded touchedOf taken lowestFree firstBad
 mute-fails m = differ (m ((C.Add 10, room) ∷ []) refl .turns 10 room refl refl .each-once (0 with-use 0))
 
 -- add 10, turn 10, turn 10: the second turn reports 0:0 again, though it is no longer owed
 pub stuck-fails : Meets stuck every → ⊥
-unfolding note next from upd ℕ-discrete handle-discrete filterMap Occurs.has Occurs.times passing touchedOf taken lowestFree settledOf drainFrom dueBy rungOf ringFrom advancedOf pushSound removeSound popSound pushedOf removedOf filledOf vacatedOf addedOf takenOf upFrom putAt firstBad
+unfolding note next from upd ℕ-discrete handle-discrete filterMap Occurs.has Occurs.times unguarded touchedOf taken lowestFree settledOf drainFrom dueBy rungOf ringFrom advancedOf pushSound removeSound popSound pushedOf removedOf filledOf vacatedOf addedOf takenOf upFrom putAt firstBad
 stuck-fails m =
     differ (sym (m ((C.Add 10, room) ∷ (C.Turn 10, room) ∷ []) refl .turns 10 room refl refl .each-once (0 with-use 0)))
 
 -- add 10, cancel 0:0, turn 10: 0:0 is reported, though it was cancelled
 pub heedless-fails : Meets heedless every → ⊥
-unfolding note next from upd ℕ-discrete handle-discrete filterMap Occurs.times passing Set.liveAt touchedOf taken lowestFree settledOf drainFrom dueBy rungOf ringFrom advancedOf pushSound pushedOf addedOf takenOf upFrom putAt firstBad
+unfolding note next from upd ℕ-discrete handle-discrete filterMap Occurs.times unguarded Set.liveAt touchedOf taken lowestFree settledOf drainFrom dueBy rungOf ringFrom advancedOf pushSound pushedOf addedOf takenOf upFrom putAt firstBad
 heedless-fails m =
     differ (sym (m ((C.Add 10, room) ∷ (C.Cancel (0 with-use 0), room) ∷ []) refl .turns 10 room refl refl .each-once (0 with-use 0)))
 
 -- add 10, turn 10: 0:0 is not drained, so it is not reported, though it is owed and due
 pub undrained-fails : Meets undrained every → ⊥
-unfolding note next from upd ℕ-discrete handle-discrete filterMap Occurs.times passing touchedOf taken lowestFree ringFrom advancedOf firstBad
+unfolding note next from upd ℕ-discrete handle-discrete filterMap Occurs.times unguarded touchedOf taken lowestFree ringFrom advancedOf firstBad
 undrained-fails m = differ (m ((C.Add 10, room) ∷ []) refl .turns 10 room refl refl .each-once (0 with-use 0))
 
 -- add 10, turn 9: 0:0 is reported, though it is not due
 pub hasty-fails : Meets hasty every → ⊥
-unfolding note next from upd ℕ-discrete handle-discrete filterMap Occurs.times passing touchedOf taken lowestFree settledOf drainFrom dueBy rungOf ringFrom advancedOf pushSound pushedOf addedOf takenOf upFrom putAt firstBad
+unfolding note next from upd ℕ-discrete handle-discrete filterMap Occurs.times unguarded touchedOf taken lowestFree settledOf drainFrom dueBy rungOf ringFrom advancedOf pushSound pushedOf addedOf takenOf upFrom putAt firstBad
 hasty-fails m = differ (sym (m ((C.Add 10, room) ∷ []) refl .turns 9 room refl refl .each-once (0 with-use 0)))
 
 -- the premise: after an add there are no resets
@@ -164,7 +164,7 @@ added-low =
 
 -- add 10, drain, advance 10: nothing is reported, though 0:0 is owed, due and drained
 pub idle-fails : Meets idle every → ⊥
-unfolding Bounded note next from upd ℕ-discrete handle-discrete filterMap Occurs.times passing touchedOf taken lowestFree ringFrom advancedOf firstBad
+unfolding Bounded note next from upd ℕ-discrete handle-discrete filterMap Occurs.times unguarded touchedOf taken lowestFree ringFrom advancedOf firstBad
 idle-fails m =
     let cs : List (Call × List ℕ) = (C.Add 10, room) ∷ (C.Drain, room) ∷ [] in
     let low : Bounded idle (run idle []) cs = ((λ h. omega arith), (added-low, (λ h. omega arith))) in
@@ -172,7 +172,7 @@ idle-fails m =
 
 -- add 10, turn 9: none is answered as the next wake, though 0:0 is owed
 pub asleep-fails : Meets asleep every → ⊥
-unfolding Bounded note next from upd ℕ-discrete handle-discrete filterMap Occurs.has passing touchedOf taken lowestFree settledOf drainFrom dueBy ringFrom advancedOf pushSound pushedOf addedOf takenOf upFrom putAt firstBad
+unfolding Bounded note next from upd ℕ-discrete handle-discrete filterMap Occurs.has unguarded touchedOf taken lowestFree settledOf drainFrom dueBy ringFrom advancedOf pushSound pushedOf addedOf takenOf upFrom putAt firstBad
 asleep-fails m =
     let cs : List (Call × List ℕ) = (C.Add 10, room) ∷ [] in
     let low : Bounded asleep (run asleep []) cs = ((λ h. omega arith), added-low) in
@@ -181,14 +181,14 @@ asleep-fails m =
 
 -- add 10, drain: none is answered as the next wake, though 0:0 is owed and drained
 pub dozing-fails : Meets dozing every → ⊥
-unfolding note next from upd ℕ-discrete handle-discrete passing touchedOf taken lowestFree settledOf drainFrom pushSound pushedOf addedOf takenOf upFrom putAt firstBad
+unfolding note next from upd ℕ-discrete handle-discrete unguarded touchedOf taken lowestFree settledOf drainFrom pushSound pushedOf addedOf takenOf upFrom putAt firstBad
 dozing-fails m =
     let w = m ((C.Add 10, room) ∷ (C.Drain, room) ∷ []) refl .in-time (0 with-use 0) [] refl refl refl in
     unlike (accepted (wake none)) (accepted (wake (some (w .0)))) refl (w .1)
 
 -- next wake of the fresh engine: 0 is answered, though nothing is owed
 pub restless-fails : Meets restless every → ⊥
-unfolding Bounded from passing firstBad
+unfolding Bounded from unguarded firstBad
 restless-fails m = let w = m [] refl .wakes [] refl (λ h. omega arith) refl (λ h. refl) in early (w .0) (w .1) (w .2)
   where
     early : (t : Option ℕ) → accepted (wake (some 0)) ≡ accepted (wake t) → Least blank t → ⊥
@@ -197,5 +197,5 @@ restless-fails m = let w = m [] refl .wakes [] refl (λ h. omega arith) refl (λ
 
 -- a turn with a list of one word: it is refused, and the word is gone
 pub scribbling-fails : Meets scribbling every → ⊥
-unfolding from passing firstBad
+unfolding from unguarded firstBad
 scribbling-fails m = differ (m [] refl .lends (C.Turn 0) (7 ∷ []) refl .0)

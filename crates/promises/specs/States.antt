@@ -198,8 +198,8 @@ abbrev pub emptyHeap : ℕ → DrawnHeap
 emptyHeap n = withMade n (heap [] (empty n ∷ numbered empty (cap - 1) 0) (cap - 1))
 
 -- where as many entries or slots as there is room for are drawn
-abbrev pub overfull : List Row
-overfull =
+abbrev pub brimful : List Row
+brimful =
     -- AN ENTRY TOO MANY. It breaks 13 too: there are then more entries than the slots can be full
     row 1 (anOpen fullHeap (heldFrom cap 0) nobody) (anOpen (withLen (cap + 1) fullHeap) (heldFrom cap 0) nobody) (11 ∷ 13 ∷ [])
     -- A SLOT TOO MANY
@@ -525,4 +525,4 @@ abbrev pub few : List Row
 few = counts ++ positions ++ orders ++ chains ++ slots ++ lists ++ closings ++ unused ++ cancels ++ ranges ++ later
 
 abbrev pub rows : List Row
-rows = overfull ++ few
+rows = brimful ++ few

@@ -3,6 +3,7 @@ pub mod Decimal
 pub mod Handles
 pub mod Putting
 pub mod Rows
+pub mod Untested
 pub mod RowThirteen
 pub mod Wakes
 pub mod NoSecond

@@ -51,16 +51,20 @@ wakeIn (accepted (wake w)) = w
 wakeIn (accepted (polled n)) = none
 wakeIn (accepted (time t)) = none
 
--- after an accepted advance or turn the next wake is asked of the set as it is then; after any other call it is not
+-- a wake, where an answer is that of an accepted advance or turn
+abbrev pub whereRan : Answer Value → Option ℕ → Option ℕ
+whereRan (refused n) w = none
+whereRan (unsound x) w = none
+whereRan (accepted nothing) w = none
+whereRan (accepted (handle h)) w = none
+whereRan (accepted (counts n m)) w = w
+whereRan (accepted (wake t)) w = none
+whereRan (accepted (polled n)) w = none
+whereRan (accepted (time t)) w = none
+
+-- the next wake is asked of the set as it is after an advance or a turn; after any other call it is not
 abbrev pub wakeAfter : Set → Answer Value → Option ℕ
-wakeAfter s (refused n) = none
-wakeAfter s (unsound x) = none
-wakeAfter s (accepted nothing) = none
-wakeAfter s (accepted (handle h)) = none
-wakeAfter s (accepted (counts n m)) = wakeIn (nextWakeOf s .answer)
-wakeAfter s (accepted (wake w)) = none
-wakeAfter s (accepted (polled n)) = none
-wakeAfter s (accepted (time t)) = none
+wakeAfter s a = whereRan a (wakeIn (nextWakeOf s .answer))
 
 abbrev pub tells : Call → Outcome Lent Value → Answered
 tells c o = record { state = o .state; told = made (operationOf c) (o .answer) (wakeAfter (o .state .set) (o .answer)) }

@@ -32,12 +32,15 @@ step-sound s o w =
       closes = λ _. closed-sound s o;
     })
 
+-- so a call leads from a set that fits to one that fits
+pub step-fit : (s : Set) → Fit s → (c : Call) (l : List ℕ) → Fit (step s c l .state .set)
+step-fit s f c l = record { sound = step-sound s (f .sound) (f .words) c l; words = step-words s (f .words) c l }
+
 -- after any calls from fresh, each with a lent list of its own, the set is sound
 pub after-fit : (cs : List (Call × List ℕ)) (s : Set) → Fit s → Fit (after cs s)
 after-fit [] s f = f
 after-fit (c ∷ cs) s f =
-    after-fit cs (step s (c .0) (c .1) .state .set)
-    (record { sound = step-sound s (f .sound) (f .words) (c .0) (c .1); words = step-words s (f .words) (c .0) (c .1) })
+    after-fit cs (step s (c .0) (c .1) .state .set) (step-fit s f (c .0) (c .1))
 
 pub fresh-fit : Fit freshOf
 fresh-fit = record { sound = fresh-sound; words = fresh-words }

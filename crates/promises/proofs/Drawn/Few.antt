@@ -20,7 +20,7 @@ use Rattle.promises.specs.States.{Drawn, heapOf}
 use Rattle.promises.proofs.Drawn.Room.{drawnAt}
 use Rattle.promises.proofs.Drawn.Links.{once, closed, settled}
 
--- how many steps of a list or chain are followed: more than any of them is long, and at most the least capacity that there is
+-- how many steps of a list or chain are followed: more than any of them is long, and no more than the capacity and one
 abbrev pub steps : ℕ
 steps = 6
 
