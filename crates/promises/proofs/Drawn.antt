@@ -12,3 +12,5 @@ pub mod FullKept
 pub mod Path
 pub mod Emptied
 pub mod Tested
+pub mod Fitting
+pub mod Crowded

@@ -89,7 +89,7 @@ traces-same [] = refl
 traces-same (t ∷ ts) = λ i. cond (right-same t i) (traces-same ts i) (t .number ∷ traces-same ts i)
 
 -- THE SAME of calls on a set and a lent list, whatever else is asked of them
-calls-same : (s : Lent) → Fit (s .set) → (cs : List Call) (ws : List (Answer Value)) → Bench.answered unguarded s cs ws ≡ Bench.answered step s cs ws
+pub calls-same : (s : Lent) → Fit (s .set) → (cs : List Call) (ws : List (Answer Value)) → Bench.answered unguarded s cs ws ≡ Bench.answered step s cs ws
 calls-same s f [] [] = refl
 calls-same s f [] (a ∷ ws) = refl
 calls-same s f (c ∷ cs) [] = refl

@@ -3,7 +3,7 @@
 -- Assumes nothing.
 use mathlib.Core.Bool.{Bool, cond, _&&_}
 use mathlib.Core.Option.{Option, none, some}
-use mathlib.Core.List.{List, [], _∷_}
+use mathlib.Core.List.{List, [], _∷_, _++_}
 use Prim.Native.Nat.{ℕ, _-_}
 use lib.Dec.{eqb}
 use lib.ListN.{replicate}
@@ -26,9 +26,9 @@ use Rattle.state.specs.State.{freshOf, timerAt}
 use Rattle.state.specs.Handles.{namedBy}
 use Rattle.timers.specs.declared.Call.{Call}
 use Rattle.timers.specs.declared.Call.the-variants as C
-use Rattle.timers.specs.Calls.{Value, nothing, handle, counts, wake, polled, time, Lent, lent, step}
-use Rattle.promises.specs.Bench.{sameNumbers, answered, _with-use_}
-use Rattle.promises.specs.States.{setOf, anOpen, aClosed, bare, timer, live, from, nobody, no-slot}
+use Rattle.timers.specs.Calls.{Value, nothing, handle, counts, wake, polled, time, lent, step}
+use Rattle.promises.specs.Bench.{sameNumbers, Way, answered, _with-use_}
+use Rattle.promises.specs.States.{Drawn, setOf, numbered, anOpen, aClosed, bare, timer, live, from, nobody, no-slot}
 
 -- what a row asks, with the answer that it must get
 pub data Corner : Type 0 where
@@ -81,17 +81,22 @@ samePlace t u =
     && (sameNumbers (waitingCode (t .waiting)) (waitingCode (u .waiting))
     && (sameNumbers (heldCode (t .held)) (heldCode (u .held)) && eqb (t .uses) (u .uses)))
 
-abbrev pub right : Corner → Bool
-right (poll w n) = sameNumbers (timeCode (pollOf w)) (timeCode (accepted n))
-right (skip T period N a) = sameNumbers (timeCode (tickOf Skip T period N)) (timeCode a)
-right (calls s cs answers) = answered step (lent s (replicate cap 0)) cs answers
-right (drain s t) = samePlace (timerAt (step s C.Drain [] .state .set) 0) t
-right (names w h) = sameNumbers (nameCode (namedBy w)) (nameCode h)
+-- whether a row is right, where calls are made in this way
+abbrev pub rightBy : Way → Corner → Bool
+rightBy way (poll w n) = sameNumbers (timeCode (pollOf w)) (timeCode (accepted n))
+rightBy way (skip T period N a) = sameNumbers (timeCode (tickOf Skip T period N)) (timeCode a)
+rightBy way (calls s cs answers) = answered way (lent s (replicate cap 0)) cs answers
+rightBy way (drain s t) = samePlace (timerAt (way s C.Drain [] .state .set) 0) t
+rightBy way (names w h) = sameNumbers (nameCode (namedBy w)) (nameCode h)
 
--- the numbers of the rows that are wrong
+-- the numbers of the rows that are wrong then
+abbrev pub wrongBy : Way → List Row → List ℕ
+wrongBy way [] = []
+wrongBy way (r ∷ rs) = cond (rightBy way (r .asked)) (wrongBy way rs) (r .number ∷ wrongBy way rs)
+
+-- and where they are made by the rules
 abbrev pub wrong : List Row → List ℕ
-wrong [] = []
-wrong (r ∷ rs) = cond (right (r .asked)) (wrong rs) (r .number ∷ wrong rs)
+wrong = wrongBy step
 
 -- a place with a use number, and nothing else but what it is
 abbrev pub place : Life → ℕ → Timer
@@ -102,49 +107,59 @@ abbrev pub cancelledAt : ℕ → Timer
 cancelledAt u = record { life = Cancelled 0; waiting = Last; held = Held.Nothing; uses = u }
 
 -- it is at place 0: of a set whose other places are free, and of one whose other places are all live
-abbrev pub alone : ℕ → Set
-alone u = setOf (anOpen bare (cancelledAt u ∷ []) (from 0))
+abbrev pub alone : ℕ → Drawn
+alone u = anOpen bare (cancelledAt u ∷ []) (from 0)
 
-abbrev pub crowded : ℕ → Set
-crowded u = setOf (anOpen bare (cancelledAt u ∷ replicate (cap - 1) (live No no-slot)) (from 0))
+abbrev pub crowded : ℕ → Drawn
+crowded u = anOpen bare (cancelledAt u ∷ numbered (λ i. live No no-slot) (cap - 1) 1) (from 0)
 
 -- a closed set with a live timer of each of the words 0 to 3
-abbrev pub marked : Set
+abbrev pub marked : Drawn
 marked =
-    setOf
-    (aClosed bare
+    aClosed bare
     (timer (Live 0 5) No no-slot ∷ timer (Live 1 5) No no-slot ∷ timer (Live 2 5) No no-slot ∷ timer (Live 3 5) No no-slot ∷ [])
-    nobody)
+    nobody
 
-abbrev pub corners : List Row
-corners =
+-- rows 1 and 2: the last use numbers
+abbrev pub lastUses : List Row
+lastUses =
     -- THE LAST USE NUMBER BUT ONE: the drain frees the place, with the last one. A timer gets it, and then the place is retired
-    row 1 (drain (alone 4294967294) (place Free 4294967295))
+    row 1 (drain (setOf (alone 4294967294)) (place Free 4294967295))
     ∷ row 1
-    (calls (alone 4294967294)
+    (calls (setOf (alone 4294967294))
     (C.Drain ∷ C.Add 10 ∷ C.Cancel (0 with-use 4294967295) ∷ C.Drain ∷ C.Add 20 ∷ [])
     (accepted nothing ∷ accepted (handle (0 with-use 4294967295)) ∷ accepted nothing ∷ accepted nothing
     ∷ accepted (handle (1 with-use 0)) ∷ []))
     -- THE LAST USE NUMBER: the drain retires the place, and an add gets another
-    ∷ row 2 (drain (alone 4294967295) (place Retired 4294967295))
+    ∷ row 2 (drain (setOf (alone 4294967295)) (place Retired 4294967295))
     ∷ row 2
-    (calls (alone 4294967295) (C.Add 10 ∷ C.Drain ∷ C.Add 20 ∷ [])
+    (calls (setOf (alone 4294967295)) (C.Add 10 ∷ C.Drain ∷ C.Add 20 ∷ [])
     (accepted (handle (1 with-use 0)) ∷ accepted nothing ∷ accepted (handle (2 with-use 0)) ∷ []))
+    ∷ []
+
+-- rows 3 and 4: the same where no other place is free
+abbrev pub noneFree : List Row
+noneFree =
     -- WITH NO OTHER PLACE FREE: the one that the drain frees is given out, and one that it retires is not
-    ∷ row 3
-    (calls (crowded 4294967294) (C.Add 10 ∷ C.Drain ∷ C.Add 10 ∷ C.Add 10 ∷ [])
+    row 3
+    (calls (setOf (crowded 4294967294)) (C.Add 10 ∷ C.Drain ∷ C.Add 10 ∷ C.Add 10 ∷ [])
     (refused 4 ∷ accepted nothing ∷ accepted (handle (0 with-use 4294967295)) ∷ refused 4 ∷ []))
     ∷ row 4
-    (calls (crowded 4294967295) (C.Add 10 ∷ C.Drain ∷ C.Add 10 ∷ [])
+    (calls (setOf (crowded 4294967295)) (C.Add 10 ∷ C.Drain ∷ C.Add 10 ∷ [])
     (refused 4 ∷ accepted nothing ∷ refused 4 ∷ []))
+    ∷ []
+
+-- rows 5 to 10
+abbrev pub others : List Row
+others =
     -- POLL: pending, fired, gone; and with both marks fired
-    ∷ row 5 (poll 0 0)
+    row 5 (poll 0 0)
     ∷ row 5 (poll 1 1)
     ∷ row 5 (poll 2 2)
     ∷ row 5 (poll 3 1)
     -- the same of timers with these words
     ∷ row 6
-    (calls marked
+    (calls (setOf marked)
     (C.Poll (0 with-use 0) ∷ C.Poll (1 with-use 0) ∷ C.Poll (2 with-use 0) ∷ C.Poll (3 with-use 0) ∷ [])
     (accepted (polled 0) ∷ accepted (polled 1) ∷ accepted (polled 2) ∷ accepted (polled 1) ∷ []))
     -- A LATE SKIP: N + 10 is 2^64-1, and 5 is taken from it. With N one later the sum is 2^64: refused, though 6 less would fit
@@ -168,3 +183,7 @@ corners =
     ∷ row 10 (names 65535 (some (65535 with-use 0)))
     ∷ row 10 (names 4294967296 (some (0 with-use 1)))
     ∷ []
+
+-- all of them
+abbrev pub corners : List Row
+corners = lastUses ++ (noneFree ++ others)
