@@ -3,6 +3,8 @@
 use std::env;
 use std::ffi::c_long;
 
+#[path = "../../oracle/src/capacity.rs"]
+mod capacity;
 pub mod rounds;
 
 extern "C" {

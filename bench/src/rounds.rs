@@ -4,6 +4,7 @@
 //! reported is read from the oracle's notes: the numbers of the wakers that the advance calls. Those of the timers are in a row, so
 //! a place is found by a subtraction.
 
+use crate::capacity;
 use std::pin::Pin;
 use std::task::{Context, Waker};
 use wasmtimer::notes::{self, Notes};
@@ -13,7 +14,7 @@ use wasmtimer::timer::Timer;
 use wasmtimer::tokio::Sleep;
 
 /// How many timers there are.
-const CAP: u64 = 64;
+const CAP: u64 = capacity::CAP as u64;
 
 /// What is carried from one call to the next: the timers, the deadline that was given last, the checksum so far, and the notes.
 struct Run {

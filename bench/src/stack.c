@@ -22,7 +22,7 @@ typedef uint64_t exported(uint64_t, uint64_t, uint64_t, uint64_t, uint64_t, uint
 exported depth_fresh, depth_add, depth_reset, depth_cancel, depth_drain, depth_advance, depth_turn, depth_next_wake, depth_poll,
     depth_close, depth_tick, depth_restart, depth_time_left, depth_least_left, depth_perform;
 
-enum { STACK = 1 << 18, PAGE = 4096, WORD = 8, PAINT = 0xa5, RED_ZONE = 128, UNSOUND = 100 };
+enum { STACK = 1 << 20, PAGE = 4096, WORD = 8, PAINT = 0xa5, RED_ZONE = 128, UNSOUND = 100 };
 
 static uint8_t *stack;
 static uint64_t *before, *after;

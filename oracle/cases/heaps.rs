@@ -1,15 +1,16 @@
 //! Entries 10, 14 and 15: the heap alone.
 
+use crate::capacity::CAP;
 use wasmtimer::notes;
 use wasmtimer::timer::heap::look::Seen;
 use wasmtimer::timer::heap::Heap;
 
 #[test]
-fn entry_10_a_heap_takes_more_than_64_entries() {
+fn entry_10_a_heap_takes_an_entry_more() {
     let mut heap = Heap::new();
-    let slots: Vec<usize> = (0..65).map(|_| heap.push(0).number()).collect();
-    assert_eq!(slots.last(), Some(&64));
-    assert_eq!(heap.entries().len(), 65);
+    let slots: Vec<usize> = (0..=CAP).map(|_| heap.push(0).number()).collect();
+    assert_eq!(slots.last(), Some(&CAP));
+    assert_eq!(heap.entries().len(), CAP + 1);
 }
 
 #[test]

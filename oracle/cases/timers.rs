@@ -1,5 +1,6 @@
 //! Entries 5, 9, 10, 11, 13 and 17: timers of an open set.
 
+use crate::capacity::CAP;
 use crate::support::{interval, poll_for, reset, tick, word, Set, Task};
 use std::sync::atomic::Ordering::SeqCst;
 use std::sync::Arc;
@@ -33,12 +34,12 @@ fn entry_9_a_cancelled_timer_popped_before_its_drain_is_woken() {
 }
 
 #[test]
-fn entry_10_a_set_takes_more_than_64_timers() {
+fn entry_10_a_set_takes_a_timer_more() {
     let mut set = Set::fresh();
-    let sleeps: Vec<_> = (0..65).map(|_| set.add(0)).collect();
+    let sleeps: Vec<_> = (0..=CAP).map(|_| set.add(0)).collect();
     set.drain();
     assert!(sleeps.iter().all(|sleep| sleep.node().is_some()));
-    assert_eq!(set.timer.as_ref().unwrap().entries().len(), 65);
+    assert_eq!(set.timer.as_ref().unwrap().entries().len(), CAP + 1);
 }
 
 #[test]

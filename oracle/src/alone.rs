@@ -4,7 +4,7 @@
 //! A difference that is levelled out here: a raw counter below the start counts as no time in the Rust; here it is refused with 7.
 
 use crate::answer::{refusal, refuse_if, sum, Answer, Given, Popped};
-use crate::set::CAP;
+use crate::capacity::CAP;
 use std::time::Duration;
 use wasmtimer::js::set_raw_counter;
 use wasmtimer::notes;

@@ -2,6 +2,7 @@
 
 mod alone;
 mod answer;
+mod capacity;
 mod difference;
 mod generate;
 mod panics;

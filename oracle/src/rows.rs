@@ -1,5 +1,6 @@
 //! Tests: the rows of the bench sheet, the lines of FORMAT.md, and what the driver promises. What is awaited comes from those pages.
 
+use crate::capacity::CAP;
 use crate::generate::{self, CALLS};
 use crate::queries::{self, Outcome, Query, OUTCOMES};
 use crate::record::{op, Handle, Policy, Record, POLICIES};
@@ -138,14 +139,16 @@ fn row_11_an_entry_that_a_reset_has_left_behind() {
 
 #[test]
 fn row_12_a_full_set() {
-    let mut calls = each(op::ADD, &[10; 65]);
+    let mut calls = each(op::ADD, &[10; CAP + 1]);
     calls.push(Record::on(op::CANCEL, FIRST, 0));
     calls.push(timed(op::ADD, 10));
     calls.push(Record::plain(op::DRAIN));
     calls.push(timed(op::ADD, 10));
     let lines = lines(&calls);
-    let answers: Vec<&str> = lines[63..].iter().map(|line| answer(line)).collect();
-    assert_eq!(answers, ["0 0 63 0", "0 4", "2 0", "0 4", "3 0", "0 0 0 1"]);
+    let answers: Vec<&str> = lines[CAP - 1..].iter().map(|line| answer(line)).collect();
+    let last = format!("0 0 {} 0", CAP - 1);
+    let then = ["0 4", "2 0", "0 4", "3 0", "0 0 0 1"];
+    assert_eq!((answers[0], &answers[1..]), (last.as_str(), &then[..]));
 }
 
 #[test]

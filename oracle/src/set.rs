@@ -9,6 +9,7 @@
 //! - After a close the Rust's timers keep their slots. `slot_of` says none.
 
 use crate::answer::{refusal, refuse_if, sum, Answer, Given};
+use crate::capacity::CAP;
 use crate::panics::unless_it_panics;
 use crate::record::{Handle, Policy};
 use std::pin::Pin;
@@ -23,9 +24,6 @@ use wasmtimer::std::Instant;
 use wasmtimer::timer::arc_list::Node;
 use wasmtimer::timer::{Inner, ScheduledTimer, Timer};
 use wasmtimer::tokio::{Interval, MissedTickBehavior, Sleep};
-
-/// How many places a set has, and how many entries a heap.
-pub const CAP: usize = 64;
 
 /// A tick is late where the reading is more than this above the deadline.
 const LATE_AFTER: u128 = 5_000_000;

@@ -3,4 +3,4 @@
 use Prim.Native.Nat.{ℕ}
 
 abbrev pub cap : ℕ
-cap = 64
+cap = 256

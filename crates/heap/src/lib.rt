@@ -19,7 +19,7 @@ ghost use Rattle.heap.specs.Sound.{Sound, SlotsIn};
 ghost use Rattle.heap.specs.Promises.{Capacity, Before, Heights, Fresh, Consistent, Guards, Pushes, Removes, Pops, Peeks, PushesSound, RemovesSound, PopsSound, PeeksSound};
 
 // How many entries a heap holds at most: `cap` of specs/Capacity.antt.
-pub const CAP: usize = 64;
+pub const CAP: usize = 256;
 
 // A slot number: it names an entry, wherever the entry stands.
 pub struct Slot(pub u16);

@@ -2,10 +2,14 @@
 
 use super::dice::Dice;
 use crate::answer::{Answer, Given};
+use crate::capacity::CAP;
 use crate::record::{op, Handle, Policy, Record, POLICIES};
 use crate::set::{due_of, word_of, Life};
 use crate::world::World;
 use wasmtimer::timer::heap::look::Seen;
+
+/// The first place, and the first slot, that there is not.
+pub const PAST: u16 = CAP as u16;
 
 /// A maker of calls and what it has made so far.
 pub struct Maker {
@@ -125,8 +129,10 @@ impl Maker {
     /// A handle that is most likely dead: of any place, of another use, or of a place that there is not.
     fn made_up(&mut self) -> Handle {
         let place = match self.dice.below(4) {
-            0 => self.dice.one_of(&[64, 65, 127, 4095, 65535]),
-            1 => self.dice.below(64) as u16,
+            0 => self
+                .dice
+                .one_of(&[PAST, PAST + 1, 2 * PAST - 1, 4095, 65535]),
+            1 => self.dice.below(CAP as u64) as u16,
             _ => self.dice.below(8) as u16,
         };
         let known = self.world.set.places.get(usize::from(place));
@@ -268,7 +274,7 @@ impl Maker {
         let slot = if full.is_empty() || self.dice.percent(8) {
             let made = slots.len() as u16;
             let some = self.dice.below(u64::from(made) + 2) as u16;
-            self.dice.one_of(&[some, some, made, 64, 65535])
+            self.dice.one_of(&[some, some, made, PAST, 65535])
         } else {
             self.dice.one_of(&full)
         };

@@ -1,6 +1,7 @@
 //! The sample: a fixed list of calls of all kinds, chosen to be telling. The rows are those of the bench sheet.
 
-use super::maker::Maker;
+use super::maker::{Maker, PAST};
+use crate::capacity::CAP;
 use crate::record::{op, Handle, Policy, Record, POLICIES};
 
 const MS: u64 = 1_000_000;
@@ -180,16 +181,17 @@ fn row_11(m: &mut Maker) {
     timed(m, op::TURN, &[19, 20]);
 }
 
-/// A set is full at 64; a cancel makes room only with the next drain.
+/// A set is full when every place is taken; a cancel makes room only with the next drain.
 fn row_12(m: &mut Maker) {
-    for deadline in 0..65 {
-        add(m, &[deadline * 7 % 64]);
+    let places = CAP as u64;
+    for add_number in 0..=places {
+        add(m, &[add_number * 7 % places]);
     }
     cancel(m, at(5, 0));
     add(m, &[1]);
     plain(m, &[op::DRAIN]);
     add(m, &[1, 2]);
-    timed(m, op::TURN, &[31]);
+    timed(m, op::TURN, &[places / 2 - 1]);
 }
 
 /// The example of the replay program.
@@ -245,7 +247,7 @@ fn cancels(m: &mut Maker) {
 fn dead_handles(m: &mut Maker) {
     add(m, &[1, 1]);
     cancel(m, at(1, 0));
-    for handle in [at(64, 0), at(65535, 0), at(2, 0), at(1, 0), at(0, 1)] {
+    for handle in [at(PAST, 0), at(65535, 0), at(2, 0), at(1, 0), at(0, 1)] {
         reset(m, handle, 1);
         cancel(m, handle);
         poll(m, handle);
@@ -350,7 +352,7 @@ fn closed(m: &mut Maker) {
     }
     plain(m, &[op::NEXT_WAKE, op::DRAIN, op::CLOSE]);
     reset(m, FIRST, 1);
-    reset(m, at(64, 0), 1);
+    reset(m, at(PAST, 0), 1);
     cancel(m, FIRST);
     add(m, &[1]);
     timed(m, op::ADVANCE, &[9]);
@@ -419,12 +421,12 @@ fn left_until_the_close(m: &mut Maker) {
     left(m, &[0, 2, u64::MAX]);
 }
 
-/// The heap is full at 64.
+/// The heap is full when every slot is.
 fn heap_full(m: &mut Maker) {
-    for step in 0..65 {
-        timed(m, op::PUSH, &[(97 - step) % 13]);
+    for step in 0..=u64::from(PAST) {
+        timed(m, op::PUSH, &[(6 + 12 * step) % 13]);
     }
-    remove(m, &[63, 0, 31]);
+    remove(m, &[PAST - 1, 0, PAST / 2 - 1]);
     plain(m, &[op::POP, op::TEST]);
 }
 

@@ -1,6 +1,7 @@
 //! Long sequences by styles: which calls are made how often, how each sequence opens, and where deadlines and readings come from.
 
 use super::maker::Maker;
+use crate::capacity::CAP;
 use crate::record::{op, Record};
 
 /// A kind of call.
@@ -22,6 +23,9 @@ pub enum Kind {
     Clock,
     NoCall,
 }
+
+/// How many places there are.
+const PLACES: u64 = CAP as u64;
 
 /// A source of times.
 type Times = fn(&mut Maker) -> u64;
@@ -214,7 +218,7 @@ fn gone_off(maker: &mut Maker) {
 /// As many timers as there are places, one more, a cancel that frees nothing yet, and a drain that does.
 fn to_the_brim(maker: &mut Maker) {
     let ties = maker.dice.percent(40);
-    for _ in 0..65 {
+    for _ in 0..=CAP {
         let deadline = if ties { few(maker) } else { span(maker) };
         maker.add(deadline);
     }
@@ -393,7 +397,7 @@ pub const STALE: Style = Style {
 /// Sets that are full, or nearly so.
 pub const FULL: Style = Style {
     opening: to_the_brim,
-    length: (20, 80),
+    length: (PLACES / 3, PLACES * 5 / 4),
     kinds: &[
         (16, Kind::Add),
         (12, Kind::Reset),
@@ -506,7 +510,7 @@ pub fn heap(maker: &mut Maker) {
     let deadline = maker.dice.one_of(&[few as Times, span, extreme]);
     for _ in 0..maker.dice.between(1, 6) {
         let pushes = maker.dice.one_of(&[10, 40, 55, 75, 95]);
-        for _ in 0..maker.dice.between(20, 90) {
+        for _ in 0..maker.dice.between(20, PLACES * 7 / 5) {
             let deadline = deadline(maker);
             maker.heap_call(pushes, deadline);
         }
