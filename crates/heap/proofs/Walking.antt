@@ -1,3 +1,5 @@
--- The walks of an entry up and down: how they step and stop, and that they make swaps and nothing else.
+-- The walks of an entry up and down: how they step and stop, that they make swaps and nothing else, and how a carried entry is one
+-- that swaps.
 pub mod Laws
 pub mod Steps
+pub mod Hole

@@ -14,7 +14,7 @@ use refusals::fault::Verdict;
 ghost use mathlib.Core.Path.{_≡_};
 ghost use Prim.Native.Nat.{_<_, _≤_};
 ghost use Rattle.heap.specs.Capacity.{cap};
-ghost use Rattle.heap.specs.Rules.{putAt, takenOf, addedOf, vacatedOf, filledOf};
+ghost use Rattle.heap.specs.Rules.{takenOf, vacatedOf, filledOf};
 ghost use Rattle.heap.specs.Sound.{Sound, SlotsIn};
 ghost use Rattle.heap.specs.Promises.{Capacity, Before, Heights, Fresh, Consistent, Guards, Pushes, Removes, Pops, Peeks, PushesSound, RemovesSound, PopsSound, PeeksSound};
 
@@ -231,7 +231,10 @@ pub fn push_sound(h: Heap, at: u64, generation: u32, place: Place) -> AfterPush
         place,
         slot,
     };
-    let m = walk::percolate_up(added(taken(h), e), Pos(n as u16));
+    // one longer, with a hole at its end
+    let mut w = taken(h);
+    w.len = n + 1;
+    let m = walk::percolate_up(w, e, Pos(n as u16));
     let g = m.heap;
     AfterPush {
         heap: g,
@@ -328,17 +331,6 @@ fn taken(h: Heap) -> Heap
     }
 }
 
-// The entry goes last, and its slot says so.
-fn added(h: Heap, e: Entry) -> Heap
-    requires { ⌜ (h .len < cap) × (e .slot .0 < cap) ⌝ }
-    ensures { λ r. ⌜ r ≡ addedOf h e ⌝ }
-{
-    let n = h.len;
-    let mut g = h;
-    g.len = n + 1;
-    put(g, Pos(n as u16), e)
-}
-
 // The slot becomes the free head, naming the old one.
 fn vacated(h: Heap, slot: Slot) -> Heap
     requires { ⌜ slot .0 < cap ⌝ }
@@ -374,23 +366,8 @@ fn filled(h: Heap, pos: Pos) -> walk::Moved
         };
     }
     if before(e, gone) {
-        walk::percolate_up(put(g, pos, e), pos)
+        walk::percolate_up(g, e, pos)
     } else {
-        walk::percolate_down(put(g, pos, e), pos)
+        walk::percolate_down(g, e, pos)
     }
-}
-
-// The entry stands at the position, and its slot says so.
-fn put(h: Heap, pos: Pos, e: Entry) -> Heap
-    requires { ⌜ (pos .0 < cap) × (e .slot .0 < cap) ⌝ }
-    ensures { λ r. ⌜ r ≡ putAt h (pos .0) e ⌝ }
-{
-    let mut g = h;
-    let i = pos.0 as usize;
-    let s = e.slot.0 as usize;
-    g.entries[i] = e;
-    g.slots[s] = SlabSlot {
-        state: SlotState::Full(pos),
-    };
-    g
 }

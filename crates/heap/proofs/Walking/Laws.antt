@@ -97,7 +97,7 @@ slots-in-added h e l p r =
     }
 
 -- the last entry of a heap that has one has its slot in the slab
-pub last-in : (h : Heap) → SlotsIn h → (p : ℕ) → p < h .len → slotAt h (h .len - 1) < cap
+last-in : (h : Heap) → SlotsIn h → (p : ℕ) → p < h .len → slotAt h (h .len - 1) < cap
 last-in h r p b = r .slots-in (h .len - 1) (omega arith)
 
 -- so does the last entry's move into a hole of the heap that is one shorter
