@@ -105,6 +105,7 @@ module _ (l : List ℕ) where
   unfolding spare setOf
   added-crowded u cs ws = add-full (cancelledAt u) (from 0) refl l 10 cs ws
 
+  -- the two rows, whatever list is lent
   row-freed : answered unguarded (lent (setOf (crowded 4294967294)) l) (C.Add 10 ∷ C.Drain ∷ C.Add 10 ∷ C.Add 10 ∷ [])
       (refused 4 ∷ accepted nothing ∷ accepted (handle (0 with-use 4294967295)) ∷ refused 4 ∷ []) ≡ true
   row-freed =
@@ -136,6 +137,7 @@ wrong-append way (r ∷ rs) qs =
     apart true n xs ys = refl
     apart false n xs ys = refl
 
+-- none is wrong
 pub corner-rows : wrong corners ≡ []
 corner-rows =
     sym (wrong-same corners corners-fit)

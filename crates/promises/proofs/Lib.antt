@@ -14,6 +14,7 @@ pub mod Overfull
 pub mod Meeting
 pub mod Faultless
 pub mod Engine
+pub mod UntestedMeets
 pub mod Functions
 pub mod Timeouts
 pub mod Display

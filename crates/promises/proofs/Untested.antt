@@ -27,15 +27,15 @@ use Rattle.promises.specs.Untested.{untested}
 use Rattle.promises.specs.Tracing.{Made, Trace, callsOf, handlesCode, timeCode, lined, addedIn, leastIn, answered, ended, right, wrong}
 
 -- a moment of the engine, as one of the other
-abbrev as-untested : Run ours → Run untested
+abbrev pub as-untested : Run ours → Run untested
 as-untested r = record { state = r .state; ledger = r .ledger }
 
 -- a call leads from one to one, and from a set that fits to one that fits
-next-same : (r : Run ours) → Fit (r .state) → (c : Call) (l : List ℕ) → next untested (as-untested r) c l ≡ as-untested (next ours r c l)
+pub next-same : (r : Run ours) → Fit (r .state) → (c : Call) (l : List ℕ) → next untested (as-untested r) c l ≡ as-untested (next ours r c l)
 unfolding next
 next-same r f c l = ap (λ (o : Outcome Lent Value). record { state = o .state .set; ledger = note c (seen (handed o)) (r .ledger) }) (sym (step-same (r .state) f c l))
 
-next-fit : (r : Run ours) → Fit (r .state) → (c : Call) (l : List ℕ) → Fit (next ours r c l .state)
+pub next-fit : (r : Run ours) → Fit (r .state) → (c : Call) (l : List ℕ) → Fit (next ours r c l .state)
 unfolding next
 next-fit r f c l = step-fit (r .state) f c l
 
@@ -51,14 +51,14 @@ answered-same r f (m ∷ ms) =
     && (sameNumbers (handlesCode (seen (handed (e t)) .reports)) (handlesCode (m .reports)) && rest t)
 
 -- and so are the moments after any calls
-from-same : (r : Run ours) → Fit (r .state) → (cs : List (Call × List ℕ)) → from untested (as-untested r) cs ≡ as-untested (from ours r cs)
+pub from-same : (r : Run ours) → Fit (r .state) → (cs : List (Call × List ℕ)) → from untested (as-untested r) cs ≡ as-untested (from ours r cs)
 unfolding from
 from-same r f [] = refl
 from-same r f (c ∷ cs) =
     ap (λ (x : Run untested). from untested x cs) (next-same r f (c .0) (c .1))
     ∙ from-same (next ours r (c .0) (c .1)) (next-fit r f (c .0) (c .1)) cs
 
-from-fit : (r : Run ours) → Fit (r .state) → (cs : List (Call × List ℕ)) → Fit (from ours r cs .state)
+pub from-fit : (r : Run ours) → Fit (r .state) → (cs : List (Call × List ℕ)) → Fit (from ours r cs .state)
 unfolding from
 from-fit r f [] = f
 from-fit r f (c ∷ cs) = from-fit (next ours r (c .0) (c .1)) (next-fit r f (c .0) (c .1)) cs

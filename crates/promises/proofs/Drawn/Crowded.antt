@@ -42,6 +42,7 @@ lives = numbered (λ i. live No no-slot) (cap - 1) 1
 abbrev pub behind : Timer → List Timer
 behind t = inRoom noTimer 0 (t ∷ lives)
 
+-- with it there are as many as places, and so nothing stands after them
 lives-long : (t : Timer) → length (t ∷ lives) ≡ cap
 lives-long t = ap suc (numbered-length (λ i. live No no-slot) (cap - 1) 1)
 
@@ -95,6 +96,7 @@ module _ (u : ℕ) where
       alike-broken (setOf (crowded u)) clauses (verdicts [] clauses)
       (also refl (also refl (also refl (also refl (also refl (also refl list))))))
 
+  -- so it fits
   pub crowded-fit : Fit (setOf (crowded u))
   crowded-fit =
       let e = lives-long (cancelledAt u) in
@@ -107,6 +109,7 @@ module _ (u : ℕ) where
 abbrev pub crowd : Timer → First → Set
 crowd t f = record { heap = heapOf bare; timers = behind t; first = f; closed = false }
 
+-- then no place is free
 behind-taken : (t : Timer) → isFree (t .life) ≡ false → (i : ℕ) → i < cap → not (isFree (getD (t ∷ lives) i noTimer .life)) ≡ true
 behind-taken t e zero l = ap not e
 behind-taken t e (suc i) l =
