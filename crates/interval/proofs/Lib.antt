@@ -1,2 +1,3 @@
 pub mod Late
 pub mod NoSecond
+pub mod Timely

@@ -7,4 +7,5 @@ pub mod Handles
 pub mod Entries
 pub mod Reporting
 pub mod UnusedRoom
+pub mod Widths
 pub mod NoSecond

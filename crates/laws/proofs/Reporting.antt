@@ -2,3 +2,4 @@
 pub mod AdvancedList
 pub mod Reports
 pub mod Written
+pub mod AnyList

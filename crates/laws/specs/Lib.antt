@@ -8,3 +8,4 @@ pub mod EntryOf
 pub mod Rooms
 pub mod Pending
 pub mod Unguarded
+pub mod Widths

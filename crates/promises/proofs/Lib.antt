@@ -15,6 +15,8 @@ pub mod Meeting
 pub mod Faultless
 pub mod Engine
 pub mod UntestedMeets
+pub mod Beside
+pub mod Images
 pub mod Functions
 pub mod Timeouts
 pub mod Display

@@ -3,6 +3,8 @@ pub mod Table
 pub mod Bench
 pub mod Turns
 pub mod Engine
+pub mod Beside
+pub mod Images
 pub mod Untested
 pub mod Tracing
 pub mod Traces

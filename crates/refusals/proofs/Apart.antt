@@ -14,7 +14,7 @@ use Rattle.refusals.specs.declared.fault.Fault.the-variants.{Count, Posi
 use Rattle.refusals.specs.declared.fault.Verdict.{Verdict}
 use Rattle.refusals.specs.declared.fault.Verdict.the-variants.{Sound, Broken}
 use Rattle.refusals.specs.declared.Refusal.{Refusal}
-use Rattle.refusals.specs.declared.Refusal.the-variants.{Unsound, Closed, DeadHandle, Full, ShortList, TimeOverflow, CounterBehind, WrongMode, ZeroPeriod, NotFired, VacantSlot, BadRecord}
+use Rattle.refusals.specs.declared.Refusal.the-variants.{Unsound, Closed, DeadHandle, Full, ShortList, TimeOverflow, CounterBehind, WrongMode, ZeroPeriod, NotFired, VacantSlot, BadRecord, BadImage}
 use Rattle.refusals.specs.declared.time.Time.{Time}
 use Rattle.refusals.specs.declared.time.Time.the-variants.{At, Refused}
 use Rattle.refusals.specs.declared.time.Left.{Left}
@@ -29,7 +29,7 @@ abbrev pub refusalOf : ℕ → Refusal
 refusalOf n =
     getD
     (Closed ∷ Closed ∷ Closed ∷ DeadHandle ∷ Full ∷ ShortList ∷ TimeOverflow ∷ CounterBehind ∷ WrongMode ∷ ZeroPeriod ∷ NotFired
-    ∷ VacantSlot ∷ BadRecord ∷ [])
+    ∷ VacantSlot ∷ BadRecord ∷ BadImage ∷ [])
     n Closed
 
 -- a reading of answers that takes what refuses to its refusal undoes `refuse`
@@ -47,6 +47,7 @@ refusal-back f g p q ZeroPeriod = p (numberOf ZeroPeriod)
 refusal-back f g p q NotFired = p (numberOf NotFired)
 refusal-back f g p q VacantSlot = p (numberOf VacantSlot)
 refusal-back f g p q BadRecord = p (numberOf BadRecord)
+refusal-back f g p q BadImage = p (numberOf BadImage)
 
 -- no two refusals are answered alike: none but 1 shares its number with another, and 1 has the fault beside it
 pub refuse-apart : {A : Type 0} → TellsApart (refuse {A = A})

@@ -6,7 +6,7 @@ use Prim.Native.Nat.{ℕ}
 use Rattle.theory.proofs.Tests.{true-false}
 use Rattle.refusals.specs.declared.fault.Fault.{Fault}
 use Rattle.refusals.specs.declared.Refusal.{Refusal}
-use Rattle.refusals.specs.declared.Refusal.the-variants.{Unsound, Closed, DeadHandle, Full, ShortList, TimeOverflow, CounterBehind, WrongMode, ZeroPeriod, NotFired, VacantSlot, BadRecord}
+use Rattle.refusals.specs.declared.Refusal.the-variants.{Unsound, Closed, DeadHandle, Full, ShortList, TimeOverflow, CounterBehind, WrongMode, ZeroPeriod, NotFired, VacantSlot, BadRecord, BadImage}
 use Rattle.refusals.specs.Numbers.{numberOf}
 use Rattle.refusals.specs.Answer.{Answer, accepted, refused, unsound, refuse, isAccepted, numberIn}
 
@@ -25,6 +25,7 @@ any-refusal f g p q ZeroPeriod = p (numberOf ZeroPeriod)
 any-refusal f g p q NotFired = p (numberOf NotFired)
 any-refusal f g p q VacantSlot = p (numberOf VacantSlot)
 any-refusal f g p q BadRecord = p (numberOf BadRecord)
+any-refusal f g p q BadImage = p (numberOf BadImage)
 
 -- a reading that takes a refusal to something of its number, and one with a fault to that of 1, does so of any refusal
 pub by-number : {A X : Type 0} (f : Answer A → X) (g : ℕ → X) → ((n : ℕ) → f (refused n) ≡ g n) → ((x : Fault) → f (unsound x) ≡ g 1)
@@ -41,6 +42,7 @@ by-number f g p q ZeroPeriod = p (numberOf ZeroPeriod)
 by-number f g p q NotFired = p (numberOf NotFired)
 by-number f g p q VacantSlot = p (numberOf VacantSlot)
 by-number f g p q BadRecord = p (numberOf BadRecord)
+by-number f g p q BadImage = p (numberOf BadImage)
 
 -- the number of a refusal is that of the answer which refuses so
 pub number-of : (A : Type 0) (r : Refusal) → numberOf r ≡ numberIn (refuse {A = A} r)

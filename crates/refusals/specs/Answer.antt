@@ -6,7 +6,7 @@ use mathlib.Core.Bool.{Bool, true, false}
 use Prim.Native.Nat.{ℕ}
 use Rattle.refusals.specs.declared.fault.Fault.{Fault}
 use Rattle.refusals.specs.declared.Refusal.{Refusal}
-use Rattle.refusals.specs.declared.Refusal.the-variants.{Unsound, Closed, DeadHandle, Full, ShortList, TimeOverflow, CounterBehind, WrongMode, ZeroPeriod, NotFired, VacantSlot, BadRecord}
+use Rattle.refusals.specs.declared.Refusal.the-variants.{Unsound, Closed, DeadHandle, Full, ShortList, TimeOverflow, CounterBehind, WrongMode, ZeroPeriod, NotFired, VacantSlot, BadRecord, BadImage}
 use Rattle.refusals.specs.Numbers.{numberOf}
 
 pub data Answer (A : Type 0) : Type 0 where
@@ -29,6 +29,7 @@ refuse ZeroPeriod = refused (numberOf ZeroPeriod)
 refuse NotFired = refused (numberOf NotFired)
 refuse VacantSlot = refused (numberOf VacantSlot)
 refuse BadRecord = refused (numberOf BadRecord)
+refuse BadImage = refused (numberOf BadImage)
 
 -- the number with which an answer refuses; 0 where it does not
 abbrev pub numberIn : {A : Type 0} → Answer A → ℕ

@@ -3,7 +3,7 @@
 use mathlib.Core.Path.{_≡_}
 use Prim.Native.Nat.{ℕ}
 use Rattle.refusals.specs.declared.Refusal.{Refusal}
-use Rattle.refusals.specs.declared.Refusal.the-variants.{Unsound, Closed, DeadHandle, Full, ShortList, TimeOverflow, CounterBehind, WrongMode, ZeroPeriod, NotFired, VacantSlot, BadRecord}
+use Rattle.refusals.specs.declared.Refusal.the-variants.{Unsound, Closed, DeadHandle, Full, ShortList, TimeOverflow, CounterBehind, WrongMode, ZeroPeriod, NotFired, VacantSlot, BadRecord, BadImage}
 
 abbrev pub numberOf : Refusal → ℕ
 numberOf (Unsound f) = 1
@@ -18,6 +18,7 @@ numberOf ZeroPeriod = 9
 numberOf NotFired = 10
 numberOf VacantSlot = 11
 numberOf BadRecord = 12
+numberOf BadImage = 13
 
 -- `number` of a refusal is n
 abbrev pub Numbers : Refusal → ℕ → Type 0

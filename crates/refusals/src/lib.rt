@@ -31,6 +31,8 @@ pub enum Refusal {
     VacantSlot,
     // a record with an unknown operation, or with an unused field that is not zero
     BadRecord,
+    // the bytes are not an image: their length, a spare bit or a field
+    BadImage,
 }
 
 // The number of a refusal in the table.
@@ -50,5 +52,6 @@ pub fn number(r: Refusal) -> u8
         Refusal::NotFired => 10,
         Refusal::VacantSlot => 11,
         Refusal::BadRecord => 12,
+        Refusal::BadImage => 13,
     }
 }

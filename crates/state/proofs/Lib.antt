@@ -10,3 +10,4 @@ pub mod FreshSound
 pub mod Handles
 pub mod NoSecond
 pub mod InUse
+pub mod Widths

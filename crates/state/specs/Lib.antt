@@ -5,3 +5,4 @@ pub mod Sound
 pub mod Promises
 pub mod InUse
 pub mod Named
+pub mod Widths

@@ -35,8 +35,8 @@ step-later s =
     step-keeps-it (Each Later s) s
     (record {
       now = λ p. later-order .blind (timerAt s p) (timerAt s p) refl refl;
-      adds = λ p d _ e. added-later s p d e;
-      resets = λ h t d _ e. touched-later s h t (Live (Word.resetOf (t .word)) d) refl e;
+      adds = λ p d _ _ e. added-later s p d e;
+      resets = λ h t d _ _ e. touched-later s h t (Live (Word.resetOf (t .word)) d) refl e;
       cancels = λ h t _ e. touched-later s h t (Cancelled (t .word)) refl e;
     })
     (record {

@@ -1,7 +1,7 @@
 -- What the code's types say of a set, as many places as the capacity and words of 32 bits, is kept by every rule on any set.
 -- Assumes nothing.
 use mathlib.Core.Path.{_≡_, refl, _∙_, ap, subst}
-use Prim.Native.Nat.{ℕ, zero, suc, _<_, _^_}
+use Prim.Native.Nat.{ℕ, _<_, _^_}
 use native.Mathlib.Omega.{arith}
 use lib.ListN.{length, set, length-set, length-replicate, getD-replicate}
 use lib.Seq.{set-out}
@@ -12,14 +12,14 @@ use Rattle.heap.specs.declared.Heap.{Heap}
 use Rattle.state.specs.declared.Life.{Life}
 use Rattle.state.specs.declared.Life.the-variants.{Free, Live, Cancelled, Retired}
 use Rattle.state.specs.declared.First.{First}
-use Rattle.state.specs.declared.First.the-variants as First
 use Rattle.state.specs.declared.Timer.{Timer}
 use Rattle.state.specs.declared.Set.{Set}
 use Rattle.state.specs.State.{noTimer, timerAt, isWaiting, headAfter, freshOf}
-use Rattle.moves.specs.Rules.{withFirst, waitingBy, headBy, touchedOf, freedOf, settledBy, settledOf, listTurn, drainFrom}
+use Rattle.moves.specs.Rules.{withFirst, waitingBy, headBy, touchedOf, freedOf, settledBy, settledOf, drainedOf}
 use Rattle.laws.specs.Words.{Small, Words}
 use Rattle.laws.proofs.Parts.Freed.{freed-by}
 use Rattle.laws.proofs.Parts.Change.{changed}
+use Rattle.laws.proofs.AnyCall.Walks.{drain-walk}
 
 -- a live word that has 32 bits
 pub live-small : (w d : ℕ) → w < 2 ^ 32 → Small (Live w d)
@@ -78,11 +78,5 @@ settled-words s p w = go (timerAt s p .life) refl
     go Retired e = words-changed s _ p _ (headAfter (timerAt s p .waiting)) w (λ b. subst Small e (w .small p b))
 
 -- a drain
-pub drain-words : (k : ℕ) (s : Set) → Words s → Words (drainFrom k s)
-unfolding drainFrom
-drain-words zero s w = w
-drain-words (suc k) s w = go (s .first) (λ p. drain-words k (settledOf s p) (settled-words s p w))
-  where
-    go : (f : First) → ((p : ℕ) → Words (drainFrom k (settledOf s p))) → Words (listTurn s f (λ p. drainFrom k (settledOf s p)))
-    go First.Nothing rest = w
-    go (First.At p) rest = rest (p .0)
+pub drained-words : (s : Set) → Words s → Words (drainedOf s)
+drained-words = drain-walk Words settled-words

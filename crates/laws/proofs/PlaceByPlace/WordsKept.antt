@@ -3,22 +3,19 @@
 use mathlib.Core.Path.{refl}
 use mathlib.Core.Bool.{Bool, true, false, cond}
 use mathlib.Core.List.{List}
-use Prim.Native.Nat.{ℕ, zero, suc, _<_, _^_}
+use Prim.Native.Nat.{ℕ, _<_, _^_}
 use native.Mathlib.Omega.{arith}
-use lib.ListN.{set}
-use Rattle.heap.specs.Capacity.{cap}
 use Rattle.heap.specs.Rules.{entryAt}
 use Rattle.heap.specs.Calls.{popSound}
 use Rattle.word.specs.Rules.{firedOf, matchesIn}
 use Rattle.state.specs.declared.Life.{Life}
 use Rattle.state.specs.declared.Life.the-variants.{Free, Live, Cancelled, Retired}
-use Rattle.state.specs.declared.First.{First}
-use Rattle.state.specs.declared.First.the-variants as First
 use Rattle.state.specs.declared.Set.{Set}
 use Rattle.state.specs.State.{timerAt, headAfter}
-use Rattle.moves.specs.Rules.{listTurn, Ring, dueBy, rungWord, rungLife, rungOf, ringFrom, advancedOf, markedLife, unlistedOf, unlistFrom, poppedOf, emptyFrom, closedOf}
+use Rattle.moves.specs.Rules.{Ring, rungWord, rungLife, rungOf, advancedOf, markedLife, unlistedOf, poppedOf, closedOf}
 use Rattle.laws.specs.Words.{Small, Words}
 use Rattle.laws.proofs.PlaceByPlace.Words.{live-small, other-small, words-changed}
+use Rattle.laws.proofs.AnyCall.Walks.{advance-walk, close-walk}
 
 -- a firing sets a bit of the 32
 rung-small : (g : ℕ) (l : Life) → Small l → Small (rungLife g l)
@@ -44,32 +41,13 @@ rung-words r w =
     words-changed (r .set) _ (entryAt (r .set .heap) 0 .place .0) _ (r .set .first) w
     (λ b. rung-small (entryAt (r .set .heap) 0 .generation) _ (w .small (entryAt (r .set .heap) 0 .place .0) b))
 
-ring-words : (k : ℕ) (r : Ring) (N : ℕ) → Words (r .set) → Words (ringFrom k r N .set)
-unfolding ringFrom
-ring-words zero r N w = w
-ring-words (suc k) r N w = go (dueBy (r .set .heap) N) (ring-words k (rungOf r) N (rung-words r w))
-  where
-    go : (b : Bool) → Words (ringFrom k (rungOf r) N .set) → Words ((cond b (ringFrom k (rungOf r) N) r) .set)
-    go true x = x
-    go false x = w
-
 -- an advance
 pub advanced-words-kept : (s : Set) (N : ℕ) (l : List ℕ) → Words s → Words (advancedOf s N l .set)
-unfolding advancedOf
-advanced-words-kept s N l w = ring-words (s .heap .len) (record { set = s; list = l; reported = 0; popped = 0 }) N w
+advanced-words-kept = advance-walk Words rung-words
 
 unlisted-words : (s : Set) (p : ℕ) → Words s → Words (unlistedOf s p)
 unfolding unlistedOf
 unlisted-words s p w = words-changed s (s .heap) p _ (headAfter (timerAt s p .waiting)) w (λ b. marked-small (timerAt s p .life) (w .small p b))
-
-unlist-words : (k : ℕ) (s : Set) → Words s → Words (unlistFrom k s)
-unfolding unlistFrom
-unlist-words zero s w = w
-unlist-words (suc k) s w = go (s .first) (λ p. unlist-words k (unlistedOf s p) (unlisted-words s p w))
-  where
-    go : (f : First) → ((p : ℕ) → Words (unlistFrom k (unlistedOf s p))) → Words (listTurn s f (λ p. unlistFrom k (unlistedOf s p)))
-    go First.Nothing rest = w
-    go (First.At p) rest = rest (p .0)
 
 popped-words : (s : Set) → Words s → Words (poppedOf s)
 unfolding poppedOf
@@ -77,14 +55,6 @@ popped-words s w =
     words-changed s (popSound (s .heap) .state) (entryAt (s .heap) 0 .place .0) _ (s .first) w
     (λ b. marked-small _ (w .small (entryAt (s .heap) 0 .place .0) b))
 
-empty-words : (k : ℕ) (s : Set) → Words s → Words (emptyFrom k s)
-unfolding emptyFrom
-empty-words zero s w = w
-empty-words (suc k) s w = empty-words k (poppedOf s) (popped-words s w)
-
 -- a close
 pub closed-words : (s : Set) → Words s → Words (closedOf s)
-unfolding closedOf
-closed-words s w =
-    let c = empty-words (unlistFrom cap s .heap .len) (unlistFrom cap s) (unlist-words cap s w) in
-    record { long = c .long; small = c .small }
+closed-words = close-walk Words unlisted-words popped-words (λ s w. record { long = w .long; small = w .small })

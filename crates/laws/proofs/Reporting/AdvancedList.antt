@@ -4,10 +4,10 @@
 use mathlib.Core.Path.{_≡_, refl, sym, _∙_, ap, subst}
 use mathlib.Core.Bool.{Bool, true, false, cond}
 use mathlib.Core.List.{List}
-use Prim.Native.Nat.{ℕ, _+_, _≤_, _<_}
+use Prim.Native.Nat.{ℕ, _+_, _-_, _≤_, _<_}
 use native.Mathlib.Omega.{arith}
-use lib.ListN.{length, getD, set, length-set}
-use lib.Seq.{getD-set-same, getD-set-other}
+use lib.ListN.{length, getD, set, drop, length-set, length-drop}
+use lib.Seq.{getD-set-same, getD-set-other, getD-drop, ext-getD}
 use Rattle.theory.proofs.Tests.{by-ref, ref-eq, true-false}
 use Rattle.heap.specs.Capacity.{cap}
 use Rattle.heap.specs.declared.Entry.{Entry}
@@ -127,3 +127,16 @@ pub advanced-words : (s : Set) (N : ℕ) (l : List ℕ) → Sound s → cap ≤ 
 advanced-words s N l ok room i h =
     let c = advanced-counts s N l ok in
     advanced-rest s N l ok .written i h (omega (arith, c .reported-in, c .popped-in, ok .heap-sound .len-in))
+
+-- a list as it was, but for its first n words
+abbrev pub Kept : ℕ → List ℕ → List ℕ → Type 0
+Kept n l m = (length m ≡ length l) × (drop n m ≡ drop n l)
+
+-- past its reports an advance leaves the list as it was
+pub rest-kept : (s : Set) (l : List ℕ) (r : Ring) → Rest s l r → Kept (r .reported) l (r .list)
+rest-kept s l r k = (
+  k .same-length,
+  ext-getD 0 (drop (r .reported) (r .list)) (drop (r .reported) l)
+      (length-drop (r .reported) (r .list) ∙ ap (λ (n : ℕ). n - r .reported) (k .same-length) ∙ sym (length-drop (r .reported) l))
+      (λ i _. getD-drop (r .reported) (r .list) i 0 ∙ k .untouched (r .reported + i) (omega arith) ∙ sym (getD-drop (r .reported) l i 0)),
+)

@@ -6,7 +6,6 @@ use mathlib.Core.Option.{some}
 use mathlib.Core.List.{List}
 use Prim.Native.Nat.{ℕ}
 use native.Mathlib.Omega.{arith}
-use Rattle.heap.specs.Capacity.{cap}
 use Rattle.word.specs.Rules as Word
 use Rattle.state.specs.declared.Life.the-variants.{Live, Cancelled}
 use Rattle.state.specs.declared.Set.{Set}
@@ -16,11 +15,11 @@ use Rattle.timers.specs.declared.Call.{Call}
 use Rattle.moves.specs.Rules.{touchedOf, lowestFree, drainedOf}
 use Rattle.timers.specs.Calls.{Timing, liveAt, resetTo, step}
 use Rattle.laws.specs.Words.{Words}
-use Rattle.laws.proofs.PlaceByPlace.Words.{live-small, other-small, touched-words, drain-words}
+use Rattle.laws.proofs.PlaceByPlace.Words.{live-small, other-small, touched-words, drained-words}
 use Rattle.laws.proofs.PlaceByPlace.WordsKept.{advanced-words-kept, closed-words}
 use Rattle.laws.proofs.AnyCall.Found.{reset-unmarked, reset-small, lowest-in, live-in}
 use Rattle.laws.proofs.Soundness.Touch.{touched-sound}
-use Rattle.laws.proofs.AnyCall.CallsKeep.{Kept, step-keeps-it}
+use Rattle.laws.proofs.AnyCall.CallsKeep.{Kept, Any, step-keeps-it}
 
 module _ (s : Set) (o : Sound s) where
   -- an add, in the lowest free place
@@ -39,8 +38,8 @@ module _ (s : Set) (o : Sound s) where
       touched-sound s (h .place .0) (Cancelled (t .word)) o c (q .0) (o .live-unmarked (h .place .0) (t .word) (t .due) (q .0) c (q .1))
 
   -- the changes of one timer
-  pub sound-kept : Kept Sound s
-  sound-kept = record { now = o; adds = added-sound; resets = reset-to-sound; cancels = cancelled-sound }
+  pub sound-kept : Kept Any Sound s
+  sound-kept = record { now = o; adds = λ p d _. added-sound p d; resets = λ h t d _. reset-to-sound h t d; cancels = cancelled-sound }
 
 -- every call, of any set
 pub step-words : (s : Set) → Words s → (c : Call) (l : List ℕ) → Words (step s c l .state .set)
@@ -48,16 +47,13 @@ step-words s w =
     step-keeps-it Words s
     (record {
       now = w;
-      adds = λ p d _ _. touched-words s p (Live 0 d) w (live-small 0 d (omega arith));
-      resets = λ h t d _ _. touched-words s (h .place .0) (Live (Word.resetOf (t .word)) d) w (live-small (Word.resetOf (t .word)) d (reset-small (t .word)));
+      adds = λ p d _ _ _. touched-words s p (Live 0 d) w (live-small 0 d (omega arith));
+      resets = λ h t d _ _ _. touched-words s (h .place .0) (Live (Word.resetOf (t .word)) d) w (live-small (Word.resetOf (t .word)) d (reset-small (t .word)));
       cancels = λ h t _ _. touched-words s (h .place .0) (Cancelled (t .word)) w (other-small (Cancelled (t .word)) (λ v d e. cc));
     })
     (record {
-      drains = λ _. drained s w;
+      drains = λ _. drained-words s w;
       advances = λ N l _. advanced-words-kept s N l w;
-      turns = λ N l _. advanced-words-kept (drainedOf s) N l (drained s w);
+      turns = λ N l _. advanced-words-kept (drainedOf s) N l (drained-words s w);
       closes = λ _. closed-words s w;
     })
-  where
-    drained : (s : Set) → Words s → Words (drainedOf s)
-    drained s = drain-words cap s

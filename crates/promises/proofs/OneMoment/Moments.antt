@@ -7,8 +7,7 @@ use mathlib.Core.List.{List, filterMap}
 use Prim.Native.Nat.{ℕ, _+_, _-_, _≤_, _<_}
 use native.Mathlib.Omega.{arith}
 use lib.Dec.{leb}
-use lib.ListN.{length, drop, length-drop}
-use lib.Seq.{getD-drop, ext-getD}
+use lib.ListN.{length}
 use Rattle.theory.specs.Tests.{bit}
 use Rattle.theory.specs.Weights.{Rising}
 use Rattle.theory.proofs.Tests.{true-false, and-left, and-right}
@@ -27,14 +26,13 @@ use Rattle.timers.specs.Values.{reportsIn}
 use Rattle.timers.specs.Calls.{timingOf, rang, wakeBy, step}
 use Rattle.laws.specs.Words.{Fit}
 use Rattle.laws.specs.EntryOf.{waiting}
-use Rattle.laws.specs.Advanced.{Rest}
 use Rattle.laws.specs.Rooms.{isCancelled}
 use Rattle.laws.proofs.Handles.Naming.{names-same, live-in-range}
 use Rattle.laws.proofs.Handles.ByHandle.{handleAt}
 use Rattle.laws.proofs.AnyCall.CallCases.{LetIn, advance-by, turn-by}
 use Rattle.laws.proofs.Soundness.DrainSound.{drained-sound}
 use Rattle.laws.proofs.Soundness.AdvancedSound.{fromStart, advanced-sound}
-use Rattle.laws.proofs.Reporting.AdvancedList.{advanced-rest}
+use Rattle.laws.proofs.Reporting.AdvancedList.{Kept, rest-kept, advanced-rest}
 use Rattle.laws.proofs.Entries.EntryOfPop.{advanced-waiting}
 use Rattle.promises.specs.Turns.{Line, Ledger, owed, settled, seen, Exact, Least, Run, Accepted}
 use Rattle.promises.specs.Engine.{handed, ours}
@@ -61,19 +59,6 @@ exact-rang : (B : Type 0) (L M : Ledger) (passes : Line → Bool) (N : ℕ) (s :
 unfolding filterMap
 exact-rang B L M passes N s l q k safe same rising =
     rw (k .written) (record { each-once = λ h. k .exact safe h ∙ ap bit (same h); in-order = rising; counted = omega (arith, k .counted) })
-
--- a list as it was, but for its first n words
-abbrev Kept : ℕ → List ℕ → List ℕ → Type 0
-Kept n l m = (length m ≡ length l) × (drop n m ≡ drop n l)
-
--- past its reports an advance leaves the list as it was
-rest-kept : (s : Set) (l : List ℕ) (r : Ring) → Rest s l r → Kept (r .reported) l (r .list)
-rest-kept s l r k = (
-  k .same-length,
-  ext-getD 0 (drop (r .reported) (r .list)) (drop (r .reported) l)
-      (length-drop (r .reported) (r .list) ∙ ap (λ (n : ℕ). n - r .reported) (k .same-length) ∙ sym (length-drop (r .reported) l))
-      (λ i _. getD-drop (r .reported) (r .list) i 0 ∙ k .untouched (r .reported + i) (omega arith) ∙ sym (getD-drop (r .reported) l i 0)),
-)
 
 -- what is live and settled is drained, and does not leave
 live-reached : (l : Line) → settled l ≡ true → l .live ≡ true → l .drained ≡ true

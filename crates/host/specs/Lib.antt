@@ -1,0 +1,4 @@
+pub mod Numbers
+pub mod Calls
+pub mod Seen
+pub mod Promises

@@ -1,0 +1,11 @@
+pub mod Calling
+pub mod Lengths
+pub mod Records
+pub mod Written
+pub mod Clearing
+pub mod UnusedRoom
+pub mod Fitting
+pub mod Accepted
+pub mod BadImage
+pub mod FreshImage
+pub mod NoSecond

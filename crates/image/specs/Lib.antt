@@ -1,0 +1,5 @@
+pub mod Image
+pub mod Ranges
+pub mod Calls
+pub mod Promises
+pub mod Accepted
