@@ -4,6 +4,7 @@
 //
 // Bytes pass exactly where they are those of a record whose numbers fit; what is read of bytes that pass has these bytes. What is
 // read of others is a record all the same, and means nothing.
+#![tactic(auto)]
 mod parts;
 
 ghost use Rattle.std.specs.Prelude.{◌+◌, ◌≤◌, length};
@@ -28,7 +29,7 @@ const FORMAT: u64 = 1;
 const CAP: u64 = heap::CAP as u64;
 
 // What an image has of a set beside its entries, slots and timers.
-#[derive(Drop)]
+#[derive(Clone, Copy)]
 pub struct Header {
     pub closed: bool,
     pub first: First,
@@ -38,25 +39,25 @@ pub struct Header {
 }
 
 // What bytes are read as, and whether they pass.
-#[derive(Drop)]
+#[derive(Clone, Copy)]
 pub struct FoundHeader {
     pub fine: bool,
     pub header: Header,
 }
 
-#[derive(Drop)]
+#[derive(Clone, Copy)]
 pub struct FoundEntry {
     pub fine: bool,
     pub entry: Entry,
 }
 
-#[derive(Drop)]
+#[derive(Clone, Copy)]
 pub struct FoundSlot {
     pub fine: bool,
     pub slot: SlabSlot,
 }
 
-#[derive(Drop)]
+#[derive(Clone, Copy)]
 pub struct FoundTimer {
     pub fine: bool,
     pub timer: Timer,

@@ -6,7 +6,7 @@ use heap::{Place, Pos, Slot, SlotState};
 use state::{First, Held, Life, Waiting};
 
 // Whose place it is, with its word and its deadline.
-#[derive(Drop)]
+#[derive(Clone, Copy)]
 pub struct LifeParts {
     pub tag: u64,
     pub word: u32,
@@ -14,7 +14,7 @@ pub struct LifeParts {
 }
 
 // A case that holds one number at most.
-#[derive(Drop)]
+#[derive(Clone, Copy)]
 pub struct Part {
     pub tag: u64,
     pub number: u16,

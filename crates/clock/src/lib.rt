@@ -1,11 +1,12 @@
 // The clock: time that can be paused, over a raw counter that the caller reads and hands in. A clock is a value: what changes
 // one answers the new clock, and a refusal answers the clock that was handed in.
+#![tactic(auto)]
 ghost use Rattle.clock.specs.Promises.{Starts, Reads, Pauses, Resumes, Advances, IsPaused, Refuses};
 
 use refusals::Refusal;
 use refusals::time::Time;
 
-#[derive(Drop)]
+#[derive(Clone, Copy)]
 pub enum Clock {
     // the time was `base` when the raw counter stood at `start`, and has gone on with it since
     Running { base: u64, start: u64 },
@@ -14,14 +15,14 @@ pub enum Clock {
 }
 
 // What a change of a clock answers.
-#[derive(Drop)]
+#[derive(Clone, Copy)]
 pub enum Change {
     Done,
     Refused(Refusal),
 }
 
 // A clock after a change, or as it was where the change is refused.
-#[derive(Drop)]
+#[derive(Clone, Copy)]
 pub struct Changed {
     pub clock: Clock,
     pub answer: Change,

@@ -6,6 +6,7 @@
 // with it, and `height` bounds the swaps. Push, remove, pop and peek test the heap first and refuse an unsound one; `push_sound`,
 // `remove_sound`, `pop_sound` and `peek_sound` do the work for a caller that has made the test itself. What an entry's place and
 // generation mean is the caller's affair.
+#![tactic(auto)]
 pub mod fault;
 mod walk;
 
@@ -22,18 +23,18 @@ use refusals::fault::Verdict;
 pub const CAP: usize = 256;
 
 // A slot number: it names an entry, wherever the entry stands.
-#[derive(Drop)]
+#[derive(Clone, Copy)]
 pub struct Slot(pub u16);
 
 // A position in the heap; the head is at 0.
-#[derive(Drop)]
+#[derive(Clone, Copy)]
 pub struct Pos(pub u16);
 
 // A timer's place, which the heap only keeps.
-#[derive(Drop)]
+#[derive(Clone, Copy)]
 pub struct Place(pub u16);
 
-#[derive(Drop)]
+#[derive(Clone, Copy)]
 pub struct Entry {
     pub at: u64,
     pub generation: u32,
@@ -41,7 +42,7 @@ pub struct Entry {
     pub slot: Slot,
 }
 
-#[derive(Drop)]
+#[derive(Clone, Copy)]
 pub enum SlotState {
     // where the slot's entry stands
     Full(Pos),
@@ -49,13 +50,13 @@ pub enum SlotState {
     Empty(Slot),
 }
 
-#[derive(Drop)]
+#[derive(Clone, Copy)]
 pub struct SlabSlot {
     pub state: SlotState,
 }
 
 // Only the first `len` entries and the first `made` slots are in use.
-#[derive(Drop)]
+#[derive(Clone, Copy)]
 pub struct Heap {
     pub entries: [Entry; CAP],
     pub len: usize,
@@ -65,14 +66,14 @@ pub struct Heap {
 }
 
 // What the test of a heap says to a call.
-#[derive(Drop)]
+#[derive(Clone, Copy)]
 pub enum Guard {
     Sound,
     Refused(Refusal),
 }
 
 // What a push answers.
-#[derive(Drop)]
+#[derive(Clone, Copy)]
 pub enum Pushed {
     // the entry's slot, and the swaps that the push took
     Done { slot: Slot, swaps: usize },
@@ -80,14 +81,14 @@ pub enum Pushed {
 }
 
 // The heap after a push, or as it was where the push is refused.
-#[derive(Drop)]
+#[derive(Clone, Copy)]
 pub struct AfterPush {
     pub heap: Heap,
     pub answer: Pushed,
 }
 
 // What a removal or a pop answers.
-#[derive(Drop)]
+#[derive(Clone, Copy)]
 pub enum Removed {
     // the entry, and the swaps that the removal took
     Done { entry: Entry, swaps: usize },
@@ -97,14 +98,14 @@ pub enum Removed {
 }
 
 // The heap after a removal or a pop, or as it was where nothing is taken.
-#[derive(Drop)]
+#[derive(Clone, Copy)]
 pub struct AfterRemove {
     pub heap: Heap,
     pub answer: Removed,
 }
 
 // What a peek answers.
-#[derive(Drop)]
+#[derive(Clone, Copy)]
 pub enum Peeked {
     Head(Entry),
     // the heap is empty

@@ -9,7 +9,7 @@ ghost use Rattle.heap.specs.Sound.{SlotsIn};
 use crate::{Entry, Heap, Pos, SlabSlot, SlotState};
 
 // A heap after a walk: where the entry stands now, and the swaps that it took.
-#[derive(Drop)]
+#[derive(Clone, Copy)]
 pub struct Moved {
     pub heap: Heap,
     pub at: Pos,

@@ -2,6 +2,7 @@
 // back. include/nurberosh.h declares them; a slice is a pointer and a count there, and a lent number a pointer.
 //
 // The answer is a status: 0 where the call is accepted, and else why it is refused. A refused call writes nothing.
+#![tactic(auto)]
 ghost use Rattle.std.specs.Prelude.{◌≡◌, ◌*◌, ◌≤◌, length};
 ghost use Rattle.host.specs.Numbers.{handle_from};
 ghost use Rattle.host.specs.Promises.{Tells, Ends, Makes, Puts, Least, Freshens, Adds, Resets, Cancels, Turns, Wakes};

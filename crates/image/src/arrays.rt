@@ -11,19 +11,19 @@ use heap::{Entry, Heap, Place, SlabSlot, Slot, SlotState};
 use state::{Held, Life, Set, Timer, Waiting};
 
 // What the bytes of an array are read as, and whether they pass.
-#[derive(Drop)]
+#[derive(Clone, Copy)]
 pub struct Entries {
     pub fine: bool,
     pub entries: [Entry; heap::CAP],
 }
 
-#[derive(Drop)]
+#[derive(Clone, Copy)]
 pub struct Slots {
     pub fine: bool,
     pub slots: [SlabSlot; heap::CAP],
 }
 
-#[derive(Drop)]
+#[derive(Clone, Copy)]
 pub struct Timers {
     pub fine: bool,
     pub timers: [Timer; heap::CAP],

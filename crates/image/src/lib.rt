@@ -2,6 +2,7 @@
 // image of a set. Both are refused where there is no image to be had, and then no byte was written.
 //
 // What is refused with 13 is found before the soundness of the set is asked. Reading and writing are one pass over the bytes each.
+#![tactic(auto)]
 mod arrays;
 
 ghost use Rattle.std.specs.Prelude.{◌≡◌, length};
@@ -26,21 +27,21 @@ const TIMERS: usize = SLOTS + heap::CAP * cells::SLOT;
 pub const SIZE: usize = TIMERS + heap::CAP * cells::TIMER;
 
 // What reading or writing answers.
-#[derive(Drop)]
+#[derive(Clone, Copy)]
 pub enum Reply {
     Done,
     Refused(Refusal),
 }
 
 // The set that was read, or the fresh one where the bytes are refused.
-#[derive(Drop)]
+#[derive(Clone, Copy)]
 pub struct Reading {
     pub set: Set,
     pub reply: Reply,
 }
 
 // What bytes are read as, and whether they pass.
-#[derive(Drop)]
+#[derive(Clone, Copy)]
 struct FoundSet {
     fine: bool,
     set: Set,

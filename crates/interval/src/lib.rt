@@ -1,5 +1,6 @@
 // The rules of an interval: when a timer that ticks goes off next. A tick that comes late is made up for by one of three
 // policies. Times are numbers of nanoseconds.
+#![tactic(auto)]
 ghost use Rattle.std.specs.Prelude.{◌≤◌};
 ghost use Rattle.interval.specs.Promises.{IsLate, Skips, Ticks, Restarts};
 
@@ -12,7 +13,7 @@ const GRACE: u64 = 5_000_000;
 const LAST: u64 = u64::MAX - GRACE;
 
 // What becomes of the ticks that a late one has missed.
-#[derive(Drop)]
+#[derive(Clone, Copy)]
 pub enum Policy {
     // they follow at once, each a period after the last
     Burst,

@@ -8,7 +8,7 @@ use heap::Place;
 use state::{First, Life, Set, Timer, Waiting};
 
 // Where a timer can be put.
-#[derive(Drop)]
+#[derive(Clone, Copy)]
 pub enum Spot {
     Nowhere,
     At(Place),

@@ -9,7 +9,7 @@ use heap::{Entry, Heap};
 use state::{Handle, Held, Life, Set, Timer};
 
 // A set after an advance: how many timers were reported, and how many entries popped.
-#[derive(Drop)]
+#[derive(Clone, Copy)]
 pub struct Ran {
     pub set: Set,
     pub reported: usize,

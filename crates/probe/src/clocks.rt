@@ -6,7 +6,7 @@ use clock::{Change, Changed, Clock};
 use refusals::time::Time;
 
 // What is kept after a record: the clock, and how many bytes of text are gathered.
-#[derive(Drop)]
+#[derive(Clone, Copy)]
 pub struct Kept {
     pub clock: Clock,
     pub at: usize,

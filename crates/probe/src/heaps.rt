@@ -7,7 +7,7 @@ use heap::{
 };
 
 // What is kept after a record: the heap, and how many bytes of text are gathered.
-#[derive(Drop)]
+#[derive(Clone, Copy)]
 pub struct Kept {
     pub heap: Heap,
     pub at: usize,

@@ -1,6 +1,7 @@
 // The probe: makes recorded calls on the proved crates and prints what each answers and what it leaves behind, so that a program in
 // Rust that takes the same records can be held against it, line by line. It keeps a set of timers, a heap of its own and a clock.
 // `oracle/FORMAT.md` has the form of a record and of a line.
+#![tactic(auto)]
 mod clocks;
 mod heaps;
 mod record;
@@ -15,7 +16,7 @@ use state::Set;
 use text::ROOM;
 
 // What the calls are made on.
-#[derive(Drop)]
+#[derive(Clone, Copy)]
 struct World {
     set: Set,
     heap: Heap,
@@ -23,14 +24,14 @@ struct World {
 }
 
 // The world after some records, and how many bytes of text are gathered then.
-#[derive(Drop)]
+#[derive(Clone, Copy)]
 struct After {
     world: World,
     at: usize,
 }
 
 // The same after a piece of the input, and whether there may be more to read.
-#[derive(Drop)]
+#[derive(Clone, Copy)]
 struct Pass {
     world: World,
     at: usize,

@@ -4,7 +4,7 @@ ghost use Rattle.std.specs.Prelude.{◌≤◌, length};
 // How many bytes a record has.
 pub const SIZE: usize = 32;
 
-#[derive(Drop)]
+#[derive(Clone, Copy)]
 pub struct Record {
     pub op: u8,
     pub policy: u8,

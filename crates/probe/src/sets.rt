@@ -17,7 +17,7 @@ const VALID: u32 = 0xffff_fffd;
 const HIGH: u64 = 4_294_967_296;
 
 // What a record asks of a set.
-#[derive(Drop)]
+#[derive(Clone, Copy)]
 enum Wish {
     Call(Call),
     // for tests alone: another state word for a live timer
@@ -27,7 +27,7 @@ enum Wish {
 }
 
 // What is kept after a record: the set, and how many bytes of text are gathered.
-#[derive(Drop)]
+#[derive(Clone, Copy)]
 pub struct Kept {
     pub set: Set,
     pub at: usize,

@@ -88,7 +88,7 @@ given = record { life = Live 0 10; waiting = Last; held = Held.Nothing; uses = 4
 module _ (l : List ℕ) where
   -- the place is freed, and an add gets it; or it is retired
   drained-freed : (cs : List Call) (ws : List (Answer Value))
-      → answered unguarded (lent (set_of (crowded 4294967294)) l) (C.Drain ∷ C.Add 10 ∷ cs) (accepted nothing ∷ accepted (handle (0 with-use 4294967295)) ∷ ws)
+      → answered unguarded (lent (set_of (crowded 4294967294)) l) (C.Drain ∷ C.Add 10 ∷ cs) (accepted nothing ∷ accepted (handle (0 with_use 4294967295)) ∷ ws)
       ≡ answered unguarded (lent (crowd given (from 0)) l) cs ws
   unfolding spare set_of unguarded touched_of taken lowest_free settled_of drain_from first_bad
   drained-freed cs ws = refl
@@ -107,10 +107,10 @@ module _ (l : List ℕ) where
 
   -- the two rows, whatever list is lent
   row-freed : answered unguarded (lent (set_of (crowded 4294967294)) l) (C.Add 10 ∷ C.Drain ∷ C.Add 10 ∷ C.Add 10 ∷ [])
-      (refused 4 ∷ accepted nothing ∷ accepted (handle (0 with-use 4294967295)) ∷ refused 4 ∷ []) ≡ true
+      (refused 4 ∷ accepted nothing ∷ accepted (handle (0 with_use 4294967295)) ∷ refused 4 ∷ []) ≡ true
   row-freed =
       added-crowded 4294967294 (C.Drain ∷ C.Add 10 ∷ C.Add 10 ∷ [])
-      (accepted nothing ∷ accepted (handle (0 with-use 4294967295)) ∷ refused 4 ∷ [])
+      (accepted nothing ∷ accepted (handle (0 with_use 4294967295)) ∷ refused 4 ∷ [])
       ∙ drained-freed (C.Add 10 ∷ []) (refused 4 ∷ [])
       ∙ add-full given (from 0) refl l 10 [] []
 

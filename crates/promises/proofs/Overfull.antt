@@ -42,30 +42,30 @@ record Filled (k : ℕ) (L : Ledger) : Type 0 where
   below : (q : ℕ) → q < k → taken_in L q ≡ true
 
 -- the newest handle of a place that is added there takes it, and no other place is touched
-added_takes : (L : Ledger) (k d : ℕ) → taken_in (added (some (k with-use (L.given k))) d L) k ≡ true
+added_takes : (L : Ledger) (k d : ℕ) → taken_in (added (some (k with_use (L.given k))) d L) k ≡ true
 unfolding taken_in
 added_takes L k d =
-    let h = k with-use (L.given k) in
+    let h = k with_use (L.given k) in
     rw (upd_same ℕ_discrete L.given k (suc (L.given k)), upd_same handle_discrete L.line h (begun d (L.line h)))
 
-taken_other : (L : Ledger) (k u d q : ℕ) → q ≢ k → (n : ℕ) → taken_by (added (some (k with-use u)) d L) q n ≡ taken_by L q n
+taken_other : (L : Ledger) (k u d q : ℕ) → q ≢ k → (n : ℕ) → taken_by (added (some (k with_use u)) d L) q n ≡ taken_by L q n
 taken_other L k u d q ne zero = refl
 taken_other L k u d q ne (suc n) =
-    let h = k with-use u in
-    rw (upd_other handle_discrete L.line h (begun d (L.line h)) (q with-use n) (λ e. ne (ap (λ (x : Handle). x.place.0) e)))
+    let h = k with_use u in
+    rw (upd_other handle_discrete L.line h (begun d (L.line h)) (q with_use n) (λ e. ne (ap (λ (x : Handle). x.place.0) e)))
 
-added_others : (L : Ledger) (k u d q : ℕ) → q ≢ k → taken_in (added (some (k with-use u)) d L) q ≡ taken_in L q
+added_others : (L : Ledger) (k u d q : ℕ) → q ≢ k → taken_in (added (some (k with_use u)) d L) q ≡ taken_in L q
 unfolding taken_in
 added_others L k u d q ne =
     rw (upd_other ℕ_discrete L.given k (suc (L.given k)) q ne) (taken_other L k u d q ne (L.given q))
 
 -- so one place more is taken
-one_more_lem : (L : Ledger) (k : ℕ) → Filled k L → Filled (suc k) (added (some (k with-use (L.given k))) 10 L)
+one_more_lem : (L : Ledger) (k : ℕ) → Filled k L → Filled (suc k) (added (some (k with_use (L.given k))) 10 L)
 one_more_lem L k f = record {
   unclosed = f.unclosed;
   below = λ q b.
       split q k
-      (λ e. subst (λ x. taken_in (added (some (k with-use (L.given k))) 10 L) x ≡ true) (sym e) (added_takes L k 10))
+      (λ e. subst (λ x. taken_in (added (some (k with_use (L.given k))) 10 L) x ≡ true) (sym e) (added_takes L k 10))
       (λ ne. added_others L k (L.given k) 10 q ne ∙ f.below q (omega arith));
 }
 

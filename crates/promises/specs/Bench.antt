@@ -138,7 +138,7 @@ answered way s (c ∷ cs) (a ∷ rest) =
 
 -- a timer's handle
 abbrev pub ◌with_use◌ : ℕ → ℕ → Handle
-p with-use u = record { place = record { 0 = p }; uses = u }
+p with_use u = record { place = record { 0 = p }; uses = u }
 
 abbrev pub right : Way → Case → Bool
 right way (word w v) = eqb (reset_of w) v
@@ -181,7 +181,7 @@ rows =
     (4 at_slot 0 ∷ 5 at_slot 2 ∷ 6 at_slot 1 ∷ 7 at_slot 3 ∷ [])
     (0 ∷ 1 ∷ 2 ∷ 0 ∷ 2 ∷ 1 ∷ 3 ∷ []) 0)
     ∷ row 11
-    (set (C.Add 10 ∷ C.Drain ∷ C.Reset (0 with-use 0) 20 ∷ C.Advance 10 ∷ C.Drain ∷ C.NextWake ∷ [])
-    (accepted (handle (0 with-use 0)) ∷ accepted nothing ∷ accepted nothing ∷ accepted (counts 0 1) ∷ accepted nothing
+    (set (C.Add 10 ∷ C.Drain ∷ C.Reset (0 with_use 0) 20 ∷ C.Advance 10 ∷ C.Drain ∷ C.NextWake ∷ [])
+    (accepted (handle (0 with_use 0)) ∷ accepted nothing ∷ accepted nothing ∷ accepted (counts 0 1) ∷ accepted nothing
     ∷ accepted (wake (some 20)) ∷ []))
     ∷ []

@@ -123,14 +123,14 @@ last_uses =
     row 1 (drain (set_of (alone 4294967294)) (place Free 4294967295))
     ∷ row 1
     (calls (set_of (alone 4294967294))
-    (C.Drain ∷ C.Add 10 ∷ C.Cancel (0 with-use 4294967295) ∷ C.Drain ∷ C.Add 20 ∷ [])
-    (accepted nothing ∷ accepted (handle (0 with-use 4294967295)) ∷ accepted nothing ∷ accepted nothing
-    ∷ accepted (handle (1 with-use 0)) ∷ []))
+    (C.Drain ∷ C.Add 10 ∷ C.Cancel (0 with_use 4294967295) ∷ C.Drain ∷ C.Add 20 ∷ [])
+    (accepted nothing ∷ accepted (handle (0 with_use 4294967295)) ∷ accepted nothing ∷ accepted nothing
+    ∷ accepted (handle (1 with_use 0)) ∷ []))
     -- THE LAST USE NUMBER: the drain retires the place, and an add gets another
     ∷ row 2 (drain (set_of (alone 4294967295)) (place Retired 4294967295))
     ∷ row 2
     (calls (set_of (alone 4294967295)) (C.Add 10 ∷ C.Drain ∷ C.Add 20 ∷ [])
-    (accepted (handle (1 with-use 0)) ∷ accepted nothing ∷ accepted (handle (2 with-use 0)) ∷ []))
+    (accepted (handle (1 with_use 0)) ∷ accepted nothing ∷ accepted (handle (2 with_use 0)) ∷ []))
     ∷ []
 
 -- rows 3 and 4: the same where no other place is free
@@ -139,7 +139,7 @@ none_free =
     -- WITH NO OTHER PLACE FREE: the one that the drain frees is given out, and one that it retires is not
     row 3
     (calls (set_of (crowded 4294967294)) (C.Add 10 ∷ C.Drain ∷ C.Add 10 ∷ C.Add 10 ∷ [])
-    (refused 4 ∷ accepted nothing ∷ accepted (handle (0 with-use 4294967295)) ∷ refused 4 ∷ []))
+    (refused 4 ∷ accepted nothing ∷ accepted (handle (0 with_use 4294967295)) ∷ refused 4 ∷ []))
     ∷ row 4
     (calls (set_of (crowded 4294967295)) (C.Add 10 ∷ C.Drain ∷ C.Add 10 ∷ [])
     (refused 4 ∷ accepted nothing ∷ refused 4 ∷ []))
@@ -156,7 +156,7 @@ others =
     -- the same of timers with these words
     ∷ row 6
     (calls (set_of marked)
-    (C.Poll (0 with-use 0) ∷ C.Poll (1 with-use 0) ∷ C.Poll (2 with-use 0) ∷ C.Poll (3 with-use 0) ∷ [])
+    (C.Poll (0 with_use 0) ∷ C.Poll (1 with_use 0) ∷ C.Poll (2 with_use 0) ∷ C.Poll (3 with_use 0) ∷ [])
     (accepted (polled 0) ∷ accepted (polled 1) ∷ accepted (polled 2) ∷ accepted (polled 1) ∷ []))
     -- A LATE SKIP: N + 10 is 2^64-1, and 5 is taken from it. With N one later the sum is 2^64: refused, though 6 less would fit
     ∷ row 7 (skip 0 10 18446744073709551605 (accepted 18446744073709551610))
@@ -167,17 +167,17 @@ others =
     -- the same of a timer: after the refusal it has its deadline and its mark still
     ∷ row 9
     (calls fresh_of
-    (C.Add 0 ∷ C.Turn 0 ∷ C.Tick (0 with-use 0) Skip 10 18446744073709551606 ∷ C.Poll (0 with-use 0)
-    ∷ C.Tick (0 with-use 0) Skip 10 18446744073709551605 ∷ C.Drain ∷ C.NextWake ∷ [])
-    (accepted (handle (0 with-use 0)) ∷ accepted (counts 1 1) ∷ refused 6 ∷ accepted (polled 1)
+    (C.Add 0 ∷ C.Turn 0 ∷ C.Tick (0 with_use 0) Skip 10 18446744073709551606 ∷ C.Poll (0 with_use 0)
+    ∷ C.Tick (0 with_use 0) Skip 10 18446744073709551605 ∷ C.Drain ∷ C.NextWake ∷ [])
+    (accepted (handle (0 with_use 0)) ∷ accepted (counts 1 1) ∷ refused 6 ∷ accepted (polled 1)
     ∷ accepted (time 0) ∷ accepted nothing ∷ accepted (wake (some 18446744073709551610)) ∷ []))
     -- WHOM A WORD NAMES: 2^32 + 1 names use 1 of place 1. 2^16, with the lowest of the zero bits set, and 2^31, with the highest, name
     -- nobody; with the bits beside them set, the largest place and the next use
-    ∷ row 10 (names 4294967297 (some (1 with-use 1)))
+    ∷ row 10 (names 4294967297 (some (1 with_use 1)))
     ∷ row 10 (names 65536 none)
     ∷ row 10 (names 2147483648 none)
-    ∷ row 10 (names 65535 (some (65535 with-use 0)))
-    ∷ row 10 (names 4294967296 (some (0 with-use 1)))
+    ∷ row 10 (names 65535 (some (65535 with_use 0)))
+    ∷ row 10 (names 4294967296 (some (0 with_use 1)))
     ∷ []
 
 -- all of them

@@ -47,13 +47,13 @@ nameless = but adds (saying nothing)
 
 -- REPEATING: every add answers 0:0, which may be live
 abbrev pub repeating : Engine
-repeating = but adds (saying (handle (0 with-use 0)))
+repeating = but adds (saying (handle (0 with_use 0)))
 
 -- OVERFULL: an add is never refused: where it would be, it answers the place after the last
 abbrev pub one_place_more : Answer Value → Answer Value
 one_place_more (accepted v) = accepted v
-one_place_more (refused n) = accepted (handle (cap with-use 0))
-one_place_more (unsound x) = accepted (handle (cap with-use 0))
+one_place_more (refused n) = accepted (handle (cap with_use 0))
+one_place_more (unsound x) = accepted (handle (cap with_use 0))
 
 abbrev pub overfull : Engine
 overfull = but adds (answering one_place_more)
@@ -99,7 +99,7 @@ mute = but rings (saying (counts 0 0))
 -- STUCK: every advance and turn reports one timer, always 0:0
 abbrev pub first_only : Left Set → Left Set
 first_only o = record {
-  state = (o.state.0, cond (is_accepted o.answer) (set o.state.1 0 (handle_word (0 with-use 0))) o.state.1);
+  state = (o.state.0, cond (is_accepted o.answer) (set o.state.1 0 (handle_word (0 with_use 0))) o.state.1);
   answer = o.answer;
 }
 

@@ -8,7 +8,7 @@ use refusals::Refusal;
 use state::Handle;
 use timers::Call;
 
-#[derive(Drop)]
+#[derive(Clone, Copy)]
 pub struct Fields {
     pub operation: u8,
     pub place: Place,

@@ -3,6 +3,7 @@
 //
 // `decode` reads a record, `answer` makes a call and says what its line is to tell, and `replay` is the two together; `write_line`
 // writes the line.
+#![tactic(auto)]
 mod fields;
 mod text;
 
@@ -16,21 +17,21 @@ use timers::{Call, Reply};
 pub const LINE: usize = 67 + heap::CAP * 22;
 
 // The call that a record makes, or why it makes none.
-#[derive(Drop)]
+#[derive(Clone, Copy)]
 pub enum Decoded {
     Call(Call),
     Refused(Refusal),
 }
 
 // A next wake, or none.
-#[derive(Drop)]
+#[derive(Clone, Copy)]
 pub enum Wake {
     At(u64),
     Nothing,
 }
 
 // What the line of a record tells.
-#[derive(Drop)]
+#[derive(Clone, Copy)]
 pub enum Line {
     // why the record makes no call
     Unread(Refusal),
@@ -43,7 +44,7 @@ pub enum Line {
 }
 
 // The set after a record, and what its line tells.
-#[derive(Drop)]
+#[derive(Clone, Copy)]
 pub struct Answered {
     pub set: Set,
     pub line: Line,

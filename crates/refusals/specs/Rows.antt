@@ -16,7 +16,7 @@ pub record Row : Type 0 where
 infixl 4 ◌at_reading◌
 infixl 3 ◌leaves◌
 abbrev pub ◌at_reading◌ : ℕ → ℕ → ℕ × ℕ
-d at-reading N = (d, N)
+d at_reading N = (d, N)
 
 abbrev pub ◌leaves◌ : ℕ × ℕ → Answer ℤ → Row
 q leaves a = record { deadline = q.0; reading = q.1; left = a }
@@ -24,18 +24,18 @@ q leaves a = record { deadline = q.0; reading = q.1; left = a }
 -- around zero, at either end of the signed numbers and one past it, and between the largest times
 abbrev pub rows : List Row
 rows =
-    (5 at-reading 7 leaves accepted (neg_ℤ (pos 2)))
-    ∷ (7 at-reading 7 leaves accepted (pos 0))
-    ∷ (7 at-reading 5 leaves accepted (pos 2))
-    ∷ (2 ^ 63 - 1 at-reading 0 leaves accepted (pos (2 ^ 63 - 1)))
-    ∷ (2 ^ 63 at-reading 0 leaves refused 6)
-    ∷ (2 ^ 64 - 1 at-reading 0 leaves refused 6)
-    ∷ (0 at-reading 2 ^ 63 leaves accepted (neg_ℤ (pos (2 ^ 63))))
-    ∷ (0 at-reading 2 ^ 63 + 1 leaves refused 6)
-    ∷ (0 at-reading 2 ^ 64 - 1 leaves refused 6)
-    ∷ (2 ^ 64 - 1 at-reading 2 ^ 64 - 1 leaves accepted (pos 0))
-    ∷ (2 ^ 64 - 1 at-reading 2 ^ 63 leaves accepted (pos (2 ^ 63 - 1)))
-    ∷ (2 ^ 63 - 1 at-reading 2 ^ 64 - 1 leaves accepted (neg_ℤ (pos (2 ^ 63))))
+    (5 at_reading 7 leaves accepted (neg_ℤ (pos 2)))
+    ∷ (7 at_reading 7 leaves accepted (pos 0))
+    ∷ (7 at_reading 5 leaves accepted (pos 2))
+    ∷ (2 ^ 63 - 1 at_reading 0 leaves accepted (pos (2 ^ 63 - 1)))
+    ∷ (2 ^ 63 at_reading 0 leaves refused 6)
+    ∷ (2 ^ 64 - 1 at_reading 0 leaves refused 6)
+    ∷ (0 at_reading 2 ^ 63 leaves accepted (neg_ℤ (pos (2 ^ 63))))
+    ∷ (0 at_reading 2 ^ 63 + 1 leaves refused 6)
+    ∷ (0 at_reading 2 ^ 64 - 1 leaves refused 6)
+    ∷ (2 ^ 64 - 1 at_reading 2 ^ 64 - 1 leaves accepted (pos 0))
+    ∷ (2 ^ 64 - 1 at_reading 2 ^ 63 leaves accepted (pos (2 ^ 63 - 1)))
+    ∷ (2 ^ 63 - 1 at_reading 2 ^ 64 - 1 leaves accepted (neg_ℤ (pos (2 ^ 63))))
     ∷ []
 
 -- what the rule says to a row

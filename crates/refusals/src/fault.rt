@@ -2,7 +2,7 @@
 ghost use Rattle.refusals.specs.Faults.{Kinds, Stands};
 
 // The kind of a fault, and where it is. The kinds are tried in this order.
-#[derive(Drop)]
+#[derive(Clone, Copy)]
 pub enum Fault {
     // of a heap: too many entries or slots, or not as many entries as full slots
     Count,
@@ -19,7 +19,7 @@ pub enum Fault {
 }
 
 // What the test of a state says.
-#[derive(Drop)]
+#[derive(Clone, Copy)]
 pub enum Verdict {
     Sound,
     Broken(Fault),

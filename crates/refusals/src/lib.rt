@@ -1,5 +1,6 @@
 // Why a call is refused: the table of refusals, one case a number. A name says what is wrong, and `number` gives the number
 // that the outside world knows.
+#![tactic(auto)]
 pub mod fault;
 pub mod time;
 
@@ -7,7 +8,7 @@ ghost use Rattle.refusals.specs.Numbers.{Numbers};
 
 use crate::fault::Fault;
 
-#[derive(Drop)]
+#[derive(Clone, Copy)]
 pub enum Refusal {
     // the state handed in is not sound: its first fault
     Unsound(Fault),

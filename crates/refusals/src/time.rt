@@ -7,14 +7,14 @@ use crate::Refusal;
 const MOST: u64 = 0x7fff_ffff_ffff_ffff;
 
 // A time: what every rule that adds times answers.
-#[derive(Drop)]
+#[derive(Clone, Copy)]
 pub enum Time {
     At(u64),
     Refused(Refusal),
 }
 
 // How far one time lies after another, in nanoseconds; below zero where it lies before the other.
-#[derive(Drop)]
+#[derive(Clone, Copy)]
 pub enum Left {
     Nanos(i64),
     Refused(Refusal),

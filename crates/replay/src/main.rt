@@ -2,13 +2,14 @@
 // timers a set has, one line for each record, and `end`, or `end short` where the input ends inside a record. Where a read fails the
 // last line is `failed read`; where a write fails nothing more is written. So an output that does not end in one of the first two is
 // not whole.
+#![tactic(auto)]
 use heap::CAP;
 use libc::{STDIN_FILENO, STDOUT_FILENO};
 use records::LINE;
 use state::Set;
 
 // Why a replay stops, or that it goes on.
-#[derive(Drop)]
+#[derive(Clone, Copy)]
 enum Course {
     GoesOn,
     Ended,
@@ -18,7 +19,7 @@ enum Course {
 }
 
 // A record, how many of its bytes came, and whether a read failed before the others did.
-#[derive(Drop)]
+#[derive(Clone, Copy)]
 struct Record {
     bytes: [u8; 14],
     came: usize,
@@ -26,7 +27,7 @@ struct Record {
 }
 
 // A set, and whether the replay goes on from it.
-#[derive(Drop)]
+#[derive(Clone, Copy)]
 struct Pass {
     set: Set,
     course: Course,

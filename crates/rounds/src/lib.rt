@@ -5,6 +5,7 @@
 // that are to be due, a turn is made, and whoever is reported is reset, in the order of the reports, to the deadline after the last
 // one that was given. So the deadlines are always as many numbers in a row as there are places, the first of them one above the
 // reading, and each turn finds exactly as many timers due as were asked for.
+#![tactic(auto)]
 ghost use Rattle.std.specs.Prelude.{◌≡◌, ◌≤◌};
 ghost use Rattle.heap.specs.Capacity.{cap};
 ghost use Rattle.state.specs.Handles.{said_named};
@@ -16,7 +17,7 @@ use state::{Named, Set};
 use timers::Reply;
 
 // What is carried from one call to the next: the set, the deadline that was given last, and the checksum so far.
-#[derive(Drop)]
+#[derive(Clone, Copy)]
 pub struct Run {
     pub set: Set,
     pub last: u64,
@@ -24,7 +25,7 @@ pub struct Run {
 }
 
 // The counts of a turn.
-#[derive(Drop)]
+#[derive(Clone, Copy)]
 pub struct Counts {
     pub reported: usize,
     pub popped: usize,

@@ -1,5 +1,6 @@
 // Row 12 of the bench sheet, run: a set takes as many timers as it has places, and no more until a drain has freed one. Each line is
 // a call and what it answered.
+#![tactic(auto)]
 use heap::Place;
 use libc::STDOUT_FILENO;
 use state::{Handle, Set};

@@ -15,14 +15,14 @@ use refusals::fault::{Fault, Verdict};
 const GENERATIONS: u32 = 1_073_741_824;
 
 // What the walk along the waiting list finds: the step at which it goes wrong.
-#[derive(Drop)]
+#[derive(Clone, Copy)]
 pub enum Walk {
     Fine,
     At(usize),
 }
 
 // What a scan of places finds.
-#[derive(Drop)]
+#[derive(Clone, Copy)]
 pub enum Scan {
     Fine,
     At(Place),

@@ -3,6 +3,7 @@
 //
 // A place is one struct whose enums leave nothing over: only a live timer has a deadline, and a free place has no word. The
 // waiting list runs through the places: `first` names the place at its head, and each waiting timer the next one.
+#![tactic(auto)]
 pub mod fault;
 
 ghost use Rattle.state.specs.Promises.{Fresh, IsSound, Words, Names};
@@ -11,7 +12,7 @@ use heap::{Heap, Place, Slot};
 use refusals::fault::Verdict;
 
 // Whose place it is.
-#[derive(Drop)]
+#[derive(Clone, Copy)]
 pub enum Life {
     // nobody's: an add may take it
     Free,
@@ -24,7 +25,7 @@ pub enum Life {
 }
 
 // Whether the timer is in the waiting list, and who comes after it there.
-#[derive(Drop)]
+#[derive(Clone, Copy)]
 pub enum Waiting {
     No,
     Last,
@@ -32,13 +33,13 @@ pub enum Waiting {
 }
 
 // The heap slot of the timer's entry.
-#[derive(Drop)]
+#[derive(Clone, Copy)]
 pub enum Held {
     Nothing,
     At(Slot),
 }
 
-#[derive(Drop)]
+#[derive(Clone, Copy)]
 pub struct Timer {
     pub life: Life,
     pub waiting: Waiting,
@@ -47,13 +48,13 @@ pub struct Timer {
 }
 
 // The head of the waiting list.
-#[derive(Drop)]
+#[derive(Clone, Copy)]
 pub enum First {
     Nothing,
     At(Place),
 }
 
-#[derive(Drop)]
+#[derive(Clone, Copy)]
 pub struct Set {
     pub heap: Heap,
     pub timers: [Timer; heap::CAP],
@@ -62,14 +63,14 @@ pub struct Set {
 }
 
 // A timer's handle: its place, and the place's use number when it was added.
-#[derive(Drop)]
+#[derive(Clone, Copy)]
 pub struct Handle {
     pub place: Place,
     pub uses: u32,
 }
 
 // Whom a word names.
-#[derive(Drop)]
+#[derive(Clone, Copy)]
 pub enum Named {
     Nobody,
     Handle(Handle),

@@ -11,7 +11,7 @@ use refusals::time::Left;
 use state::{Handle, Life, Set};
 
 // How long until the first of the pending timers is due, or that there is none.
-#[derive(Drop)]
+#[derive(Clone, Copy)]
 pub enum Least {
     Nothing,
     Nanos(i64),
@@ -19,7 +19,7 @@ pub enum Least {
 }
 
 // A deadline, where there is one.
-#[derive(Drop)]
+#[derive(Clone, Copy)]
 enum Earliest {
     Nothing,
     At(u64),

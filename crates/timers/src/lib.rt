@@ -2,6 +2,7 @@
 //
 // Every call takes any set. It tests the set's soundness first, then whether it may be made; a call that is refused hands back the
 // set, and leaves the lent list as it was. `perform` makes a call by its name.
+#![tactic(auto)]
 pub mod left;
 
 ghost use Rattle.timers.specs.Promises.{Adds, Resets, Cancels, Drains, Advances, Turns, Wakes, Polls, Closes, Ticks, Restarts, Performs, Guards, Opens, Enters, Admits, Finds, Refuses, ResetsTo};
@@ -16,7 +17,7 @@ use state::{Handle, Life, Set};
 use word::Polled;
 
 // A call on a set of timers.
-#[derive(Drop)]
+#[derive(Clone, Copy)]
 pub enum Call {
     Add {
         due: u64,
@@ -54,7 +55,7 @@ pub enum Call {
 }
 
 // What a call answers.
-#[derive(Drop)]
+#[derive(Clone, Copy)]
 pub enum Reply {
     // add: the new timer's handle
     Added(Handle),
@@ -73,21 +74,21 @@ pub enum Reply {
 }
 
 // The set after a call, or as it was where the call is refused.
-#[derive(Drop)]
+#[derive(Clone, Copy)]
 pub struct After {
     pub set: Set,
     pub reply: Reply,
 }
 
 // What the tests of a set say to a call.
-#[derive(Drop)]
+#[derive(Clone, Copy)]
 pub enum Guard {
     Open,
     Refused(Refusal),
 }
 
 // What the door says to a call on a handle: why it is refused, or the word and the deadline of the live timer.
-#[derive(Drop)]
+#[derive(Clone, Copy)]
 pub enum Door {
     Refused(Refusal),
     Live { word: u32, due: u64 },
