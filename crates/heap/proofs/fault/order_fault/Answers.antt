@@ -1,0 +1,31 @@
+-- `fault::order_fault` is right: at each turn the scan of the positions to go finds what the whole scan finds.
+-- Assumes nothing.
+use mathlib.Core.Path.{◌≡◌, refl, sym, ◌∙◌}
+use Prim.Native.Nat.{◌≤◌, ◌-◌}
+use native.Mathlib.Omega.{arith}
+use borrow.Author.Rules.{rules}
+use Rattle.refusals.specs.declared.fault.Fault.TheVariants.{Order}
+use Rattle.heap.specs.Faults.{order_ok, order_fault}
+use Rattle.heap.proofs.Testing.FaultLaws.{scan, scan-goes, scan-here, scan-done, order-not}
+use Rattle.heap.proofs.fault.order_fault.Goals as goal
+
+pub loop-i-init : goal.loop-i-init
+unfolding scan order_fault
+loop-i-init c = (search rules, refl)
+
+pub returns-then-before : goal.returns-then-before
+returns-then-before c =
+    let h = c.args.h in
+    let l = c.loop-i in
+    sym (scan-here Order (order_ok h) (omega arith) (order-not h l.i (sym c.before-in-loop-i.ensures ∙ c.if-before.true))) ∙ l.invariant.1
+
+pub loop-i-preserved : goal.loop-i-preserved
+loop-i-preserved c =
+    let h = c.args.h in
+    let l = c.loop-i in (
+      omega arith,
+      scan-goes Order (order_ok h) (omega arith) (order-not h l.i (sym c.before-in-loop-i.ensures ∙ c.if-before.false)) ∙ l.invariant.1,
+    )
+
+pub returns : goal.returns
+returns c = sym (scan-done Order (order_ok c.args.h) c.loop-i-test.false) ∙ c.loop-i.invariant.1
