@@ -1,0 +1,17 @@
+-- `fault::list_scan` is right: it marks each place that it meets, and as long as every timer there waits and was not marked the list
+-- goes wrong at no step behind it. There are as many to meet as wait, which its caller has counted; once all were met, whatever comes
+-- is out of range, does not wait or was met before.
+-- Assumes nothing.
+use mathlib.Core.Path.{sym, ◌∙◌}
+use Prim.Native.Nat.{◌-◌}
+use native.Mathlib.Omega.{arith}
+use borrow.Author.Rules.{rules}
+use borrow.Author.Tests.{not-true, not-false}
+use Rattle.state.proofs.ListLaws.{OnList, list-starts, list_short, list_past, list_again, list_still, list_goes, list_ends, list_long}
+use Rattle.state.proofs.fault.list_scan.Given as goal
+
+abbrev pub invariant-loop-step : goal.invariant-loop-step
+invariant-loop-step l = OnList l.s l.n l.step l.at l.met
+
+abbrev pub decreases-loop-step : goal.decreases-loop-step
+decreases-loop-step l = l.n - l.step
