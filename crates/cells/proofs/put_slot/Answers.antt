@@ -1,0 +1,10 @@
+-- One number.
+-- Assumes nothing.
+use Rattle.digits.proofs.Stores.{puts-number}
+use Rattle.cells.specs.Cells.{slot_bytes}
+use borrow.Author.Rules.{rules}
+use Rattle.cells.proofs.put_slot.Goals as goal
+
+pub returns : goal.returns
+unfolding slot_bytes
+returns c = puts-number 2 c.slot_number.ensures c.put.ensures

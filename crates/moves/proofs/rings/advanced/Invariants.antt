@@ -1,0 +1,39 @@
+-- What is left of the advance is always the whole of it, and each turn is one pop of the rule. No more timers are reported than
+-- entries popped, so the reports fit in the list.
+-- Assumes nothing.
+use mathlib.Core.Path.{◌≡◌, refl, sym, ap, subst, ◌∙◌}
+use mathlib.Core.Logic.{⊎_elim}
+use mathlib.Core.Bool.{true}
+use mathlib.Core.List.{List}
+use Prim.Native.Nat.{ℕ, ◌+◌, ◌-◌, ◌<◌, ◌≤◌}
+use native.Mathlib.Omega.{arith}
+use lib.ListN.{length}
+use borrow.Author.Rules.{rules}
+use borrow.Author.Tests.{not-true, not-false}
+use Rattle.theory.proofs.Stores.{unmapped}
+use Rattle.refusals.specs.Answer.{Outcome}
+use Rattle.heap.specs.Capacity.{cap}
+use Rattle.heap.specs.declared.Heap.{Heap}
+use Rattle.heap.specs.Sound.{Sound}
+use Rattle.heap.specs.Calls.{Off, pop_sound}
+use Rattle.state.specs.declared.Set.{Set}
+use Rattle.moves.specs.Rules.{Ring, due_by, rung_of, ring_from, advanced_of}
+use Rattle.moves.proofs.RingLaws.{ring-goes, ring-ends, ring-done, rung-told, rung-quiet, rung-out, rung-heap, rung-timers, rung-list, rung_reported, rung-popped}
+use Rattle.moves.proofs.rings.advanced.Given as goal
+
+-- the advance of s to N with the list l has come to r, with `left` turns to go
+pub record Going (s : Set) (N : ℕ) (l : List ℕ) (r : Ring) (left : ℕ) : Type 0 where
+  pub heap_sound : Sound r.set.heap
+  pub timers_long : length r.set.timers ≡ cap
+  pub list_long : length r.list ≡ length l
+  pub fewer : r.reported ≤ r.popped
+  pub counted : r.popped + left ≤ cap
+  pub rest : ring_from left r N ≡ advanced_of s N l
+
+abbrev pub invariant-loop-left : goal.invariant-loop-left
+invariant-loop-left l = Going l.s l.reading l.initial.list
+    (record { set = record { heap = l.h; timers = l.ts; first = l.f; closed = l.s.closed }; l.list = l.list; l.reported = l.reported; l.popped = l.popped })
+    l.left
+
+abbrev pub decreases-loop-left : goal.decreases-loop-left
+decreases-loop-left l = l.left

@@ -1,0 +1,54 @@
+-- What is left of the emptying is always the whole of it, and each turn is one pop of the rule.
+-- Assumes nothing.
+use mathlib.Core.Path.{◌≡◌, refl, sym, ap, subst, ◌∙◌}
+use mathlib.Core.Logic.{⊎_elim}
+use Prim.Native.Nat.{ℕ, ◌-◌, ◌<◌}
+use native.Mathlib.Omega.{arith}
+use lib.ListN.{length}
+use borrow.Author.Rules.{rules}
+use Rattle.theory.proofs.Stores.{unmapped}
+use Rattle.refusals.specs.Answer.{Outcome}
+use Rattle.heap.specs.Capacity.{cap}
+use Rattle.heap.specs.declared.Heap.{Heap}
+use Rattle.heap.specs.Sound.{Sound}
+use Rattle.heap.specs.Calls.{Off}
+use Rattle.state.specs.declared.Set.{Set}
+use Rattle.moves.specs.Rules.{popped_of, empty_from}
+use Rattle.moves.proofs.CloseLaws.{empty_goes, empty_done, popped_out, popped_heap, popped_timers}
+use Rattle.moves.proofs.shut.emptied.Invariants.{Emptying}
+use Rattle.moves.proofs.shut.emptied.Goals as goal
+
+-- after a pop it goes on
+goes_on : {s g : Set} {left : ℕ} → Emptying s g left → 0 < left → Emptying s (popped_of g) (left - 1)
+goes_on {s} {g} {left} v b = record {
+  heap_sound = popped_heap g v.heap_sound;
+  timers_long = popped_timers g ∙ v.timers_long;
+  rest = sym (empty_goes left g b) ∙ v.rest;
+}
+
+-- the set where a turn begins, and where it ends
+abbrev old : tie.At-loop invariant-loop decreases-loop → Set
+old c = let s = c.before.before.before.args.s in record { heap = c.loop.h; timers = c.loop.ts; first = s.first; closed = s.closed }
+
+abbrev new : tie.Joined1 invariant-loop decreases-loop → Set
+new c =
+    let s = c.before.before.before.before.before.before.before.before.before.args.s in
+    record { heap = c.before.before.before.pop-sound.result.heap; timers = c.if1.ts; first = s.first; closed = s.closed }
+
+-- a turn makes of the set what the rule's pop makes of it: the timer is marked, or there is none
+turned : (c : tie.Joined1 invariant-loop decreases-loop) → new c ≡ popped_of (old c.before.before.before.before.before.before)
+unfolding popped_of
+turned c =
+    let h = ap (λ (o : Outcome Heap Off). o.state) c.before.before.before.pop-sound.ensures in
+    ⊎_elim
+    (λ w. rw (w.3, w.2.ensures, h))
+    (λ w. rw (w.1, h) (sym (popped_out _ (omega (arith, w.0.left, c.before.before.before.before.before.before.loop.invariant.timers_long)))))
+    c.if1.branch
+
+pub loop-left-preserved : goal.loop-left-preserved
+loop-left-preserved c =
+    subst (λ (g : Set). Emptying c.args.s g (c.loop-left.left - 1)) (sym (turned c))
+    (goes_on c.loop-left.invariant c.loop-left-test.true)
+
+pub returns : goal.returns
+returns c = sym (empty_done _ (omega arith)) ∙ c.loop-left.invariant.rest

@@ -1,0 +1,30 @@
+-- What is left of the emptying is always the whole of it, and each turn is one pop of the rule.
+-- Assumes nothing.
+use mathlib.Core.Path.{◌≡◌, refl, sym, ap, subst, ◌∙◌}
+use mathlib.Core.Logic.{⊎_elim}
+use Prim.Native.Nat.{ℕ, ◌-◌, ◌<◌}
+use native.Mathlib.Omega.{arith}
+use lib.ListN.{length}
+use borrow.Author.Rules.{rules}
+use Rattle.theory.proofs.Stores.{unmapped}
+use Rattle.refusals.specs.Answer.{Outcome}
+use Rattle.heap.specs.Capacity.{cap}
+use Rattle.heap.specs.declared.Heap.{Heap}
+use Rattle.heap.specs.Sound.{Sound}
+use Rattle.heap.specs.Calls.{Off}
+use Rattle.state.specs.declared.Set.{Set}
+use Rattle.moves.specs.Rules.{popped_of, empty_from}
+use Rattle.moves.proofs.CloseLaws.{empty_goes, empty_done, popped_out, popped_heap, popped_timers}
+use Rattle.moves.proofs.shut.emptied.Given as goal
+
+-- emptying the heap of s has come to g, with `left` entries to pop
+pub record Emptying (s g : Set) (left : ℕ) : Type 0 where
+  pub heap_sound : Sound g.heap
+  pub timers_long : length g.timers ≡ cap
+  pub rest : empty_from left g ≡ empty_from s.heap.len s
+
+abbrev pub invariant-loop-left : goal.invariant-loop-left
+invariant-loop-left l = Emptying l.s (record { heap = l.h; timers = l.ts; first = l.f; closed = l.s.closed }) l.left
+
+abbrev pub decreases-loop-left : goal.decreases-loop-left
+decreases-loop-left l = l.left

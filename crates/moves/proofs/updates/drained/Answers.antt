@@ -1,0 +1,48 @@
+-- At each turn the updates to go make of the set what all of them make of the first one. The heap stays sound, and each turn is
+-- one fewer of those that a list can take.
+-- Assumes nothing.
+use mathlib.Core.Path.{◌≡◌, refl, sym, ap, ◌∙◌}
+use Prim.Native.Nat.{ℕ, suc, ◌-◌}
+use native.Mathlib.Omega.{arith}
+use borrow.Author.Rules.{rules}
+use Rattle.heap.specs.Capacity.{cap}
+use Rattle.heap.specs.Sound.{Sound}
+use Rattle.state.specs.declared.Set.{Set}
+use Rattle.moves.specs.Rules.{drain_from}
+use Rattle.moves.proofs.DrainLaws.{settled-heap, drain_goes, drain_ends}
+use Rattle.moves.proofs.updates.drained.Invariants.{Draining}
+use Rattle.moves.proofs.updates.drained.Goals as goal
+
+-- one turn fewer
+goes : (c : tie.After-settled invariant-loop decreases-loop) → drain_from (c.before.before.before.before.before.loop.left - 1) c.settled.result
+    ≡ drain_from c.before.before.before.before.before.loop.left c.before.before.before.before.before.loop.g
+goes c =
+    let l = c.before.before.before.before.before.loop in
+    let m : suc (l.left - 1) ≡ l.left = omega arith in
+    ap (drain_from (l.left - 1)) c.settled.ensures ∙ sym (drain_goes (l.left - 1) l.g c.before.before.f.given.1)
+    ∙ ap (λ k. drain_from k l.g) m
+
+pub loop-left-init : goal.loop-left-init
+loop-left-init c = record { rest = refl; sound = c.requires }
+
+pub settled-g-requires : goal.settled-g-requires
+settled-g-requires c = c.loop-left.invariant.sound
+
+pub loop-left-preserved : goal.loop-left-preserved
+loop-left-preserved c =
+    let l = c.loop-left in
+    record { rest = goes c ∙ l.invariant.rest; sound = rw c.settled-g.ensures (settled-heap l.g _ l.invariant.sound) }
+
+-- no turn is left
+pub returns-after-loop-left : goal.returns-after-loop-left
+unfolding drain_from
+returns-after-loop-left c =
+    let l = c.loop-left in
+    let z : l.left ≡ 0 = omega arith in
+    ap (λ k. drain_from k l.g) (sym z) ∙ l.invariant.rest
+
+-- the list has ended
+pub returns-in_default : goal.returns-in_default
+returns-in_default c =
+    let l = c.loop-left in
+    sym (drain_ends l.left l.g c.in_default.is) ∙ l.invariant.rest

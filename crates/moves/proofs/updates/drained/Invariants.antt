@@ -1,0 +1,24 @@
+-- At each turn the updates to go make of the set what all of them make of the first one. The heap stays sound, and each turn is
+-- one fewer of those that a list can take.
+-- Assumes nothing.
+use mathlib.Core.Path.{◌≡◌, refl, sym, ap, ◌∙◌}
+use Prim.Native.Nat.{ℕ, suc, ◌-◌}
+use native.Mathlib.Omega.{arith}
+use borrow.Author.Rules.{rules}
+use Rattle.heap.specs.Capacity.{cap}
+use Rattle.heap.specs.Sound.{Sound}
+use Rattle.state.specs.declared.Set.{Set}
+use Rattle.moves.specs.Rules.{drain_from}
+use Rattle.moves.proofs.DrainLaws.{settled-heap, drain_goes, drain_ends}
+use Rattle.moves.proofs.updates.drained.Given as goal
+
+-- the set g with so many turns to go, in a drain of s
+pub record Draining (s g : Set) (left : ℕ) : Type 0 where
+  rest : drain_from left g ≡ drain_from cap s
+  sound : Sound g.heap
+
+abbrev pub invariant-loop-left : goal.invariant-loop-left
+invariant-loop-left l = Draining l.initial.g l.g l.left
+
+abbrev pub decreases-loop-left : goal.decreases-loop-left
+decreases-loop-left l = l.left
