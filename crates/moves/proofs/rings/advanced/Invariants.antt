@@ -32,7 +32,7 @@ pub record Going (s : Set) (N : ℕ) (l : List ℕ) (r : Ring) (left : ℕ) : Ty
 
 abbrev pub invariant-loop-left : goal.invariant-loop-left
 invariant-loop-left l = Going l.s l.reading l.initial.list
-    (record { set = record { heap = l.h; timers = l.ts; first = l.f; closed = l.s.closed }; l.list = l.list; l.reported = l.reported; l.popped = l.popped })
+    (record { set = record { heap = l.h; timers = l.ts; first = l.f; closed = l.s.closed }; list = l.list; reported = l.reported; popped = l.popped })
     l.left
 
 abbrev pub decreases-loop-left : goal.decreases-loop-left

@@ -17,6 +17,7 @@ use Rattle.moves.specs.Rules.{popped_of, empty_from}
 use Rattle.moves.proofs.CloseLaws.{empty_goes, empty_done, popped_out, popped_heap, popped_timers}
 use Rattle.moves.proofs.shut.emptied.Invariants.{Emptying}
 use Rattle.moves.proofs.shut.emptied.Goals as goal
+use Rattle.moves.proofs.shut.emptied.Goals.{then-p-lt-CAP, else-p-lt-CAP}
 
 -- after a pop it goes on
 goes_on : {s g : Set} {left : ℕ} → Emptying s g left → 0 < left → Emptying s (popped_of g) (left - 1)
@@ -26,24 +27,17 @@ goes_on {s} {g} {left} v b = record {
   rest = sym (empty_goes left g b) ∙ v.rest;
 }
 
--- the set where a turn begins, and where it ends
-abbrev old : tie.At-loop invariant-loop decreases-loop → Set
-old c = let s = c.before.before.before.args.s in record { heap = c.loop.h; timers = c.loop.ts; first = s.first; closed = s.closed }
-
-abbrev new : tie.Joined1 invariant-loop decreases-loop → Set
-new c =
-    let s = c.before.before.before.before.before.before.before.before.before.args.s in
-    record { heap = c.before.before.before.pop-sound.result.heap; timers = c.if1.ts; first = s.first; closed = s.closed }
-
 -- a turn makes of the set what the rule's pop makes of it: the timer is marked, or there is none
-turned : (c : tie.Joined1 invariant-loop decreases-loop) → new c ≡ popped_of (old c.before.before.before.before.before.before)
+turned : (c : goal.Joined-p-lt-CAP)
+    → record { heap = c.pop_sound-o.result.heap; timers = c.if-p-lt-CAP.ts; first = c.args.s.first; closed = c.args.s.closed }
+    ≡ popped_of (record { heap = c.loop-left.h; timers = c.loop-left.ts; first = c.args.s.first; closed = c.args.s.closed })
 unfolding popped_of
 turned c =
-    let h = ap (λ (o : Outcome Heap Off). o.state) c.before.before.before.pop-sound.ensures in
-    ⊎_elim
-    (λ w. rw (w.3, w.2.ensures, h))
-    (λ w. rw (w.1, h) (sym (popped_out _ (omega (arith, w.0.left, c.before.before.before.before.before.before.loop.invariant.timers_long)))))
-    c.if1.branch
+    let h = ap (λ (o : Outcome Heap Off). o.state) c.pop_sound-o.ensures in
+    elim c.if-p-lt-CAP.branch [
+        then-p-lt-CAP w ↦ rw (w.ts-is, w.marked.ensures, h)
+      | else-p-lt-CAP w ↦ rw (w.ts-is, h) (sym (popped_out _ (omega (arith, w.if-p-lt-CAP.false, c.loop-left.invariant.timers_long))))
+    ]
 
 pub loop-left-preserved : goal.loop-left-preserved
 loop-left-preserved c =

@@ -26,26 +26,17 @@ goes_on {s} {g} {left} {p} v b e = record {
   rest = sym (unlist_goes left g p b e) ∙ v.rest;
 }
 
--- the set where a turn begins, and where it ends
-abbrev old : tie.At-loop invariant-loop decreases-loop → Set
-old c = let s = c.before.before.before.args.s in record { heap = s.heap; timers = c.loop.ts; first = c.loop.f; closed = s.closed }
-
-abbrev new : tie.After-marked invariant-loop decreases-loop → Set
-new c =
-    let s = c.before.before.before.before.before.before.before.before.before.before.before.before.args.s in
-    let ts = c.before.before.before.before.before.before.before.before.before.loop.ts in
-    let p = c.before.before.before.before.before.before.f.given.0.0.0 in
-    record {
-      heap = s.heap;
-      timers = set ts p (record { life = c.marked.result; waiting = No; held = Nothing; uses = (get_or ts p no_timer).uses });
-      first = c.before.after.result;
-      closed = s.closed;
-    }
-
 -- a turn makes of the set what the rule makes of it
-turned : (c : tie.After-marked invariant-loop decreases-loop) → new c ≡ unlisted_of (old c.before.before.before.before.before.before.before.before.before) c.before.before.before.before.before.before.f.given.0.0.0
+turned : (c : goal.After-marked)
+    → record {
+      heap = c.args.s.heap;
+      timers = set c.loop-left.ts c.in-At.place.0 (record { life = c.marked.result; waiting = No; held = Nothing; uses = (get_or c.loop-left.ts c.in-At.place.0 no_timer).uses });
+      first = c.after-f.result;
+      closed = c.args.s.closed;
+    }
+    ≡ unlisted_of (record { heap = c.args.s.heap; timers = c.loop-left.ts; first = c.loop-left.f; closed = c.args.s.closed }) c.in-At.place.0
 unfolding unlisted_of
-turned c = rw (c.before.after.ensures, c.marked.ensures)
+turned c = rw (c.after-f.ensures, c.marked.ensures)
 
 pub loop-left-preserved : goal.loop-left-preserved
 loop-left-preserved c =

@@ -13,25 +13,24 @@ use Rattle.moves.proofs.DrainLaws.{settled-heap, drain_goes, drain_ends}
 use Rattle.moves.proofs.updates.drained.Invariants.{Draining}
 use Rattle.moves.proofs.updates.drained.Goals as goal
 
--- one turn fewer
-goes : (c : tie.After-settled invariant-loop decreases-loop) → drain_from (c.before.before.before.before.before.loop.left - 1) c.settled.result
-    ≡ drain_from c.before.before.before.before.before.loop.left c.before.before.before.before.before.loop.g
-goes c =
-    let l = c.before.before.before.before.before.loop in
-    let m : suc (l.left - 1) ≡ l.left = omega arith in
-    ap (drain_from (l.left - 1)) c.settled.ensures ∙ sym (drain_goes (l.left - 1) l.g c.before.before.f.given.1)
-    ∙ ap (λ k. drain_from k l.g) m
-
 pub loop-left-init : goal.loop-left-init
 loop-left-init c = record { rest = refl; sound = c.requires }
 
 pub settled-g-requires : goal.settled-g-requires
 settled-g-requires c = c.loop-left.invariant.sound
 
+-- one turn fewer
 pub loop-left-preserved : goal.loop-left-preserved
 loop-left-preserved c =
     let l = c.loop-left in
-    record { rest = goes c ∙ l.invariant.rest; sound = rw c.settled-g.ensures (settled-heap l.g _ l.invariant.sound) }
+    let m : suc (l.left - 1) ≡ l.left = omega (arith, c.loop-left-test.true) in
+    record {
+      rest =
+          ap (drain_from (l.left - 1)) c.settled-g.ensures ∙ sym (drain_goes (l.left - 1) l.g c.in-At.is)
+          ∙ ap (λ k. drain_from k l.g) m
+          ∙ l.invariant.rest;
+      sound = rw c.settled-g.ensures (settled-heap l.g _ l.invariant.sound);
+    }
 
 -- no turn is left
 pub returns-after-loop-left : goal.returns-after-loop-left

@@ -14,8 +14,8 @@ use Rattle.moves.proofs.updates.drained.Given as goal
 
 -- the set g with so many turns to go, in a drain of s
 pub record Draining (s g : Set) (left : ℕ) : Type 0 where
-  rest : drain_from left g ≡ drain_from cap s
-  sound : Sound g.heap
+  pub rest : drain_from left g ≡ drain_from cap s
+  pub sound : Sound g.heap
 
 abbrev pub invariant-loop-left : goal.invariant-loop-left
 invariant-loop-left l = Draining l.initial.g l.g l.left

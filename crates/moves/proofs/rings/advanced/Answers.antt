@@ -1,0 +1,91 @@
+-- What is left of the advance is always the whole of it, and each turn is one pop of the rule. No more timers are reported than
+-- entries popped, so the reports fit in the list.
+-- Assumes nothing.
+use mathlib.Core.Path.{◌≡◌, refl, sym, ap, subst, ◌∙◌}
+use mathlib.Core.Bool.{true}
+use mathlib.Core.List.{List}
+use Prim.Native.Nat.{ℕ, ◌+◌, ◌-◌, ◌<◌, ◌≤◌}
+use native.Mathlib.Omega.{arith}
+use lib.ListN.{length}
+use borrow.Author.Rules.{rules}
+use Rattle.theory.proofs.Stores.{unmapped}
+use Rattle.refusals.specs.Answer.{Outcome}
+use Rattle.heap.specs.Capacity.{cap}
+use Rattle.heap.specs.declared.Heap.{Heap}
+use Rattle.heap.specs.Sound.{Sound}
+use Rattle.heap.specs.Calls.{Off, pop_sound}
+use Rattle.state.specs.declared.Set.{Set}
+use Rattle.moves.specs.Rules.{Ring, due_by, rung_of, ring_from, advanced_of}
+use Rattle.moves.proofs.RingLaws.{ring-goes, ring-ends, ring-done, rung-told, rung-quiet, rung-out, rung-heap, rung-timers, rung-list, rung_reported, rung-popped}
+use Rattle.moves.proofs.rings.advanced.Invariants.{Going}
+use Rattle.moves.proofs.rings.advanced.Goals as goal
+use Rattle.moves.proofs.rings.advanced.Goals.{then-p-lt-CAP, then-rings, else-rings, else-p-lt-CAP}
+
+-- after a pop it goes on
+goes_on : {s : Set} {N : ℕ} {l : List ℕ} {r : Ring} {left : ℕ} → Going s N l r left → 0 < left → due_by r.set.heap N ≡ true → Going s N l (rung_of r) (left - 1)
+goes_on {s} {N} {l} {r} {left} v b d = record {
+  heap_sound = rung-heap r v.heap_sound;
+  timers_long = rung-timers r ∙ v.timers_long;
+  list_long = rung-list r ∙ v.list_long;
+  fewer = omega (arith, rung_reported r, rung-popped r, v.fewer);
+  counted = omega (arith, rung-popped r, v.counted);
+  rest = sym (ring-goes N left r b d) ∙ v.rest;
+}
+
+-- the ring where a turn begins, and where it ends
+abbrev old : goal.Joined-p-lt-CAP → Ring
+old c = record {
+  set = record { heap = c.loop-left.h; timers = c.loop-left.ts; first = c.args.s.first; closed = c.args.s.closed };
+  list = c.loop-left.list;
+  reported = c.loop-left.reported;
+  popped = c.loop-left.popped;
+}
+
+abbrev new : goal.Joined-p-lt-CAP → Ring
+new c = record {
+  set = record { heap = c.pop_sound-o.result.heap; timers = c.if-p-lt-CAP.ts; first = c.args.s.first; closed = c.args.s.closed };
+  list = c.if-p-lt-CAP.list;
+  reported = c.if-p-lt-CAP.reported;
+  popped = c.loop-left.popped + 1;
+}
+
+-- a turn makes of the ring what the rule's pop makes of it: the timer is reported, or not, or there is none
+turned : (c : goal.Joined-p-lt-CAP) → new c ≡ rung_of (old c)
+turned c =
+    let r = old c in
+    let h = ap (λ (o : Outcome Heap Off). o.state) c.pop_sound-o.ensures in
+    elim c.if-p-lt-CAP.branch [
+        then-p-lt-CAP w ↦
+        elim w.if-rings.branch [
+            then-rings x ↦
+            rw (w.list-is, w.ts-is, w.reported-is, w.rung.ensures, x.list-is, x.reported-is, x.handle_word.ensures, h)
+            (sym (rung-told r (sym w.rings.ensures ∙ x.if-rings.true)))
+          | else-rings x ↦ rw (w.list-is, w.ts-is, w.reported-is, w.rung.ensures, x.list-is, x.reported-is, h) (sym (rung-quiet r (sym w.rings.ensures ∙ x.if-rings.false)))
+        ]
+      | else-p-lt-CAP w ↦
+        rw (w.list-is, w.ts-is, w.reported-is, h) (sym (rung-out r (omega (arith, w.if-p-lt-CAP.false, c.loop-left.invariant.timers_long))))
+    ]
+
+pub loop-left-init : goal.loop-left-init
+unfolding advanced_of
+loop-left-init c =
+    let h = c.requires.sound in
+    record {
+      heap_sound = h;
+      timers_long = search (rules, unmapped);
+      list_long = refl;
+      fewer = omega arith;
+      counted = omega (arith, h.len_in);
+      rest = refl;
+    }
+
+pub loop-left-preserved : goal.loop-left-preserved
+loop-left-preserved c =
+    subst (λ (r : Ring). Going c.args.s c.args.reading c.args.list.now r (c.loop-left.left - 1)) (sym (turned c))
+    (goes_on c.loop-left.invariant c.loop-left-test.true (sym c.due.ensures ∙ c.if-not-due.false))
+
+pub returns-after-loop-left : goal.returns-after-loop-left
+returns-after-loop-left c = sym (ring-done _ _ (omega arith)) ∙ c.loop-left.invariant.rest
+
+pub returns-then-not-due : goal.returns-then-not-due
+returns-then-not-due c = sym (ring-ends _ _ _ (sym c.due.ensures ∙ c.if-not-due.true)) ∙ c.loop-left.invariant.rest
