@@ -8,20 +8,16 @@ use Rattle.refusals.specs.declared.Refusal.TheVariants.{Unsound}
 use Rattle.refusals.specs.Answer.{accepted, refuse}
 use Rattle.refusals.specs.Faults.{said_verdict}
 use Rattle.timers.specs.Calls.{judged, guard_of}
-use Rattle.timers.proofs.guarded.Statement.{statement}
-use Rattle.timers.proofs.guarded.Tie as tie
+use Rattle.timers.proofs.guarded.Goals as goal
 
-returns : tie.Need-returns
+pub returns-in-Sound : goal.returns-in-Sound
 unfolding guard_of
-returns c =
+returns-in-Sound c =
     ap (λ (o : Option Fault). judged o (accepted tt) (λ x. refuse (Unsound x)))
-    (sym (ap said_verdict c.enum_told.given.1) ∙ c.before.before.first-fault.ensures)
+    (sym (ap said_verdict c.in-Sound.is) ∙ c.first_fault.ensures)
 
-returns-2 : tie.Need-returns-2
+pub returns-in-Broken : goal.returns-in-Broken
 unfolding guard_of
-returns-2 c =
+returns-in-Broken c =
     ap (λ (o : Option Fault). judged o (accepted tt) (λ x. refuse (Unsound x)))
-    (sym (ap said_verdict c.before.f.given.1) ∙ c.before.before.before.first-fault.ensures)
-
-pub guarded_spec : {M : Type 1} → statement M
-guarded_spec = tie.close (tie.spec (λ c κs. search rules) (λ c. search rules) (λ c. search rules) returns returns-2)
+    (sym (ap said_verdict c.in-Broken.is) ∙ c.first_fault.ensures)
