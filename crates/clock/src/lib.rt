@@ -1,6 +1,7 @@
 // The clock: time that can be paused, over a raw counter that the caller reads and hands in. A clock is a value: what changes
 // one answers the new clock, and a refusal answers the clock that was handed in.
 #![tactic(auto)]
+
 ghost use Rattle.clock.specs.Promises.{Starts, Reads, Pauses, Resumes, Advances, IsPaused, Refuses};
 
 use refusals::Refusal;

@@ -3,6 +3,7 @@
 //
 // `number` reads a field, `put` writes one and leaves every other byte alone, and `zeros` tests room that is not in use.
 #![tactic(auto)]
+
 ghost use Rattle.std.specs.Prelude.{◌+◌, ◌≤◌, length};
 ghost use Rattle.digits.specs.Promises.{Reads, PutsNumber, AreZeros};
 

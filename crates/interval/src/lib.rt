@@ -1,6 +1,7 @@
 // The rules of an interval: when a timer that ticks goes off next. A tick that comes late is made up for by one of three
 // policies. Times are numbers of nanoseconds.
 #![tactic(auto)]
+
 ghost use Rattle.std.specs.Prelude.{◌≤◌};
 ghost use Rattle.interval.specs.Promises.{IsLate, Skips, Ticks, Restarts};
 

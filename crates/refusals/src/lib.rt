@@ -1,6 +1,7 @@
 // Why a call is refused: the table of refusals, one case a number. A name says what is wrong, and `number` gives the number
 // that the outside world knows.
 #![tactic(auto)]
+
 pub mod fault;
 pub mod time;
 

@@ -2,13 +2,12 @@
 -- count all of them were met, and where it is less one is missing.
 -- Assumes nothing.
 use mathlib.Core.Path.{◌≡◌, refl, sym, ◌∙◌, ap, subst}
-use mathlib.Core.Bool.{Bool, true, false, not, ◌&&◌, ◌||◌}
+use mathlib.Core.Bool.{Bool, true, false, not, ◌||◌}
 use mathlib.Core.Option.{Option, none, some}
 use mathlib.Core.List.{List, [], ◌∷◌}
-use Prim.Native.Nat.{ℕ, zero, suc, ◌+◌, ◌<◌, ◌≤◌}
+use Prim.Native.Nat.{ℕ, zero, suc, ◌<◌, ◌≤◌}
 use native.Mathlib.Omega.{arith}
 use lib.ListN.{length}
-use Rattle.theory.specs.Tests.{Ref, holds, fails}
 use Rattle.theory.specs.Counting.{count, Mem, Distinct, Lists}
 use Rattle.theory.specs.Chain.{walkb, nodes, Chain}
 use Rattle.theory.specs.First.{first_bad}
@@ -16,7 +15,7 @@ use Rattle.theory.specs.WrongStep.{met_at, met_before, FineTo}
 use Rattle.theory.proofs.Tests.{true_false, none_some, ref_true, true_ref}
 use Rattle.theory.proofs.First.{none_all, some_first}
 use Rattle.theory.proofs.Pigeonhole.{pigeonhole, few, lists_length}
-use Rattle.theory.proofs.Chain.{chain-nodes, chain-distinct, chain-ok}
+use Rattle.theory.proofs.Chain.{chain-nodes, chain-distinct}
 use Rattle.theory.proofs.Steps.{met-none, ref-before, nodes-met, met-nodes, nodes-apart}
 
 module _ (ok : ℕ → Bool) (next : ℕ → Option ℕ) where

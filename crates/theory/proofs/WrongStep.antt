@@ -10,12 +10,11 @@ use lib.Dec.{eqb}
 use lib.ListN.{length}
 use borrow.Author.Tests.{eqb-true, eqb-false, eq-eqb, ne_eqb, not-true, not-false}
 use Rattle.theory.specs.Counting.{count}
-use Rattle.theory.specs.Chain.{walkb, Chain, chain_okb, clear}
+use Rattle.theory.specs.Chain.{walkb, chain_okb, clear}
 use Rattle.theory.specs.WrongStep.{met_at, met_before, step_ok, wrong_step, FineTo, Wrong, missing, stranger, again, WrongAt}
 use Rattle.theory.proofs.Tests.{true_false, none_some, is_false, and_left, and_right, ref_true, true_ref, false_ref}
 use Rattle.theory.proofs.Order.{split}
 use Rattle.theory.proofs.First.{none_all, all_none, some_first, first_some}
-use Rattle.theory.proofs.ChainTest.{ok-chain}
 use Rattle.theory.proofs.ChainChange.{chain_same}
 use Rattle.theory.proofs.Chain.{walk-chain}
 use Rattle.theory.proofs.Steps.{ref-before}

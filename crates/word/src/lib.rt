@@ -1,6 +1,7 @@
 // The 32-bit state word of a timer: the generation in the upper 30 bits, then the invalid bit, then the fired bit. Masks and
 // shifts pick it apart and set the bits; the contracts say what that comes to in plain arithmetic, for every word.
 #![tactic(auto)]
+
 ghost use Rattle.word.specs.Promises.{Generation, IsFired, IsInvalid, Fires, Invalidates, Resets, Matches, Polls};
 
 // The fired bit.

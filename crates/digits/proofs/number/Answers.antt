@@ -1,13 +1,8 @@
 -- Each turn takes one byte more.
 -- Assumes nothing.
-use mathlib.Core.Path.{◌≡◌, refl}
-use mathlib.Core.List.{List}
-use Prim.Native.Nat.{ℕ, ◌+◌, ◌-◌, ◌^◌, ◌<◌, ◌≤◌}
-use native.Mathlib.Nat.{pow-le-pow_right, pow-suc}
-use native.Mathlib.Numerals.{add-one}
+use Prim.Native.Nat.{ℕ, ◌+◌, ◌^◌, ◌<◌, ◌≤◌}
+use native.Mathlib.Nat.{pow-le-pow_right}
 use native.Mathlib.Omega.{arith}
-use Rattle.digits.specs.Digits.{value_at}
-use Rattle.digits.proofs.number.Invariants.{Going}
 use Rattle.digits.proofs.number.Goals as goal
 
 -- there is room for one byte more

@@ -2,14 +2,13 @@
 -- Assumes nothing.
 use mathlib.Core.Path.{◌≡◌, refl, ap, ◌∙◌, sym}
 use mathlib.Core.List.{List, [], ◌∷◌}
-use Prim.Native.Nat.{ℕ, suc, ◌+◌, ◌-◌, ◌/◌, ◌%◌, ◌≤◌}
+use Prim.Native.Nat.{ℕ, suc, ◌+◌, ◌-◌, ◌/◌, ◌%◌}
 use native.Mathlib.Omega.{arith}
 use lib.ListN.{length, set, length-set}
 use lib.Seq.{sets}
 use Rattle.digits.specs.Digits.{digits}
 use Rattle.digits.proofs.Digits.{length_digits}
 use Rattle.digits.proofs.Stores.{sets_append, store_first}
-use Rattle.digits.proofs.put.Invariants.{Going}
 use Rattle.digits.proofs.put.Goals as goal
 
 -- one byte is put, and the others are left

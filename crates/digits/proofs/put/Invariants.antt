@@ -1,14 +1,11 @@
 -- The last byte is put first; what is left to put makes the whole.
 -- Assumes nothing.
-use mathlib.Core.Path.{◌≡◌, refl, ap, ◌∙◌, sym}
-use mathlib.Core.List.{List, [], ◌∷◌}
-use Prim.Native.Nat.{ℕ, suc, ◌+◌, ◌-◌, ◌/◌, ◌%◌, ◌≤◌}
-use native.Mathlib.Omega.{arith}
-use lib.ListN.{length, set, length-set}
+use mathlib.Core.Path.{◌≡◌}
+use mathlib.Core.List.{List}
+use Prim.Native.Nat.{ℕ, ◌≤◌}
+use lib.ListN.{length}
 use lib.Seq.{sets}
 use Rattle.digits.specs.Digits.{digits}
-use Rattle.digits.proofs.Digits.{length_digits}
-use Rattle.digits.proofs.Stores.{sets_append, store_first}
 use Rattle.digits.proofs.put.Given as goal
 
 -- i bytes are left to put, and those of m are what is left

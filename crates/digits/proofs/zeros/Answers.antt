@@ -1,14 +1,12 @@
 -- Each byte before the one that is looked at is zero.
 -- Assumes nothing.
 use mathlib.Core.Path.{◌≡◌, sym, ◌∙◌}
-use mathlib.Core.Bool.{true}
 use mathlib.Core.List.{List}
-use Prim.Native.Nat.{ℕ, ◌+◌, ◌-◌, ◌≤◌}
+use Prim.Native.Nat.{ℕ, ◌+◌, ◌≤◌}
 use native.Mathlib.Omega.{arith}
 use lib.Dec.{eqb}
 use lib.ListN.{get_or}
 use Rattle.theory.proofs.Tests.{ref_eq, true_ref, false_ref}
-use Rattle.digits.specs.Digits.{zeros_at}
 use Rattle.digits.proofs.Passing.{all_none, all_more, all-not}
 use Rattle.digits.proofs.zeros.Invariants.{Going}
 use Rattle.digits.proofs.zeros.Goals as goal
