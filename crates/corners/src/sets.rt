@@ -70,14 +70,9 @@ pub fn one(t: Timer) -> Set {
 
 // The set with this place at the head of the list.
 pub fn from(s: Set, p: u16) -> Set {
-    let h = s.heap;
-    let ts = s.timers;
-    Set {
-        heap: h,
-        timers: ts,
-        first: First::At(Place(p)),
-        closed: s.closed,
-    }
+    let mut g = s;
+    g.first = First::At(Place(p));
+    g
 }
 
 // The set closed.
@@ -90,10 +85,8 @@ pub fn closed(s: Set) -> Set {
 // An open set whose every place has a live timer, in the slot that has the number of its place.
 pub fn all_in_slots(h: Heap) -> Set {
     let mut s = bare(h);
-    let mut p: usize = 0;
-    while p < heap::CAP {
+    for p in 0..heap::CAP {
         s.timers[p] = in_slot(p as u16);
-        p += 1;
     }
     s
 }

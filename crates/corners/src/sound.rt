@@ -5,22 +5,20 @@ use handmade::heaps::{entry, one};
 use handmade::tell;
 use heap::{Place, Slot};
 use state::{First, Handle, Held, Life, Set, Timer, Waiting};
+use std::io;
 
 // An advance to 5, told.
-fn advance(s: Set) {
+fn advance(rt: &impl Print, s: Set) -> io::Result<()> {
     let mut list = [0u64; heap::CAP];
     let a = timers::advance(s, 5, &mut list);
-    let r = a.reply;
-    tell::reply(r);
+    tell::reply(rt, a.reply)
 }
 
 // An add, told. Answers the set.
-fn add(s: Set) -> Set {
+fn add(rt: &impl Print, s: Set) -> io::Result<Set> {
     let a = timers::add(s, 10);
-    let r = a.reply;
-    tell::reply(r);
-    let g = a.set;
-    g
+    tell::reply(rt, a.reply)?;
+    Ok(a.set)
 }
 
 // A set with an entry of deadline 5 and generation 0, whose timer has this word and this deadline.
@@ -32,32 +30,32 @@ fn with_entry(word: u32, due: u64) -> Set {
 }
 
 // A place that is retired with use numbers left, and entries that no drain made.
-fn odd_ones() {
-    tell::text(b"place 0 retired: add ");
-    add(sets::one(timer(Life::Retired, Waiting::No, Held::Nothing)));
-    tell::text(b"fired, with an entry of its own generation: advance ");
-    advance(with_entry(1, 5));
-    tell::text(b"an entry earlier than its timer's deadline: advance ");
-    advance(with_entry(0, 9));
+fn odd_ones(rt: &impl Print) -> io::Result<()> {
+    tell::text(rt, b"place 0 retired: add ")?;
+    add(
+        rt,
+        sets::one(timer(Life::Retired, Waiting::No, Held::Nothing)),
+    )?;
+    tell::text(rt, b"fired, with an entry of its own generation: advance ")?;
+    advance(rt, with_entry(1, 5))?;
+    tell::text(rt, b"an entry earlier than its timer's deadline: advance ")?;
+    advance(rt, with_entry(0, 9))
 }
 
 // A live timer that a close does not meet.
-fn unmet() {
-    tell::text(b"live, neither waiting nor in the heap: close ");
+fn unmet(rt: &impl Print) -> io::Result<()> {
+    tell::text(rt, b"live, neither waiting nor in the heap: close ")?;
     let c = timers::close(sets::one(apart()));
-    let q = c.reply;
-    tell::reply(q);
-    tell::text(b"and a poll of it then ");
-    let g = c.set;
+    tell::reply(rt, c.reply)?;
+    tell::text(rt, b"and a poll of it then ")?;
     let p = timers::poll(
-        g,
+        c.set,
         Handle {
             place: Place(0),
             uses: 0,
         },
     );
-    let u = p.reply;
-    tell::reply(u);
+    tell::reply(rt, p.reply)
 }
 
 // A set of which this is every place but place 0. A cancelled timer with this use number is there, and a drain reaches it.
@@ -78,29 +76,32 @@ fn last_uses(uses: u32, others: Timer) -> Set {
 }
 
 // A drain and then an add, told. Answers the set.
-fn drained_add(s: Set) -> Set {
+fn drained_add(rt: &impl Print, s: Set) -> io::Result<Set> {
     let d = timers::drain(s);
-    let g = d.set;
-    add(g)
+    add(rt, d.set)
 }
 
 // The last use numbers of a place: it is retired after the last of all, and not before. Rows 1 to 4 of the further rows.
-fn worn_out_ones() {
-    tell::text(b"place 0 cancelled with use number 4294967294: drain, add ");
-    drained_add(last_uses(4_294_967_294, free()));
-    tell::text(b"with 4294967295: drain, add ");
-    drained_add(last_uses(4_294_967_295, free()));
-    tell::text(b"with 4294967294, and no other place free: drain, add ");
-    let s = drained_add(last_uses(4_294_967_294, apart()));
-    tell::text(b"and an add more ");
-    add(s);
-    tell::text(b"with 4294967295, and no other place free: drain, add ");
-    drained_add(last_uses(4_294_967_295, apart()));
+fn worn_out_ones(rt: &impl Print) -> io::Result<()> {
+    tell::text(
+        rt,
+        b"place 0 cancelled with use number 4294967294: drain, add ",
+    )?;
+    drained_add(rt, last_uses(4_294_967_294, free()))?;
+    tell::text(rt, b"with 4294967295: drain, add ")?;
+    drained_add(rt, last_uses(4_294_967_295, free()))?;
+    tell::text(rt, b"with 4294967294, and no other place free: drain, add ")?;
+    let s = drained_add(rt, last_uses(4_294_967_294, apart()))?;
+    tell::text(rt, b"and an add more ")?;
+    add(rt, s)?;
+    tell::text(rt, b"with 4294967295, and no other place free: drain, add ")?;
+    drained_add(rt, last_uses(4_294_967_295, apart()))?;
+    Ok(())
 }
 
 // All of them.
-pub fn run() {
-    odd_ones();
-    unmet();
-    worn_out_ones();
+pub fn run(rt: &impl Print) -> io::Result<()> {
+    odd_ones(rt)?;
+    unmet(rt)?;
+    worn_out_ones(rt)
 }

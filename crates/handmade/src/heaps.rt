@@ -111,11 +111,9 @@ pub fn full_heap() -> Heap
     ensures { FullHeap result }
 {
     let mut h = heap::fresh();
-    let mut i: usize = 0;
-    while i < heap::CAP {
+    for i in 0..heap::CAP {
         h.entries[i] = entry(5, i as u16, i as u16);
         h.slots[i] = full(i as u16);
-        i += 1;
     }
     h.len = heap::CAP;
     h.made = heap::CAP;
@@ -138,10 +136,8 @@ pub fn one_slot_more() -> Heap
 {
     let mut h = heap::fresh();
     h.slots[0] = empty((heap::CAP + 1) as u16);
-    let mut i: usize = 0;
-    while i < heap::CAP - 1 {
+    for i in 0..heap::CAP - 1 {
         h.slots[i + 1] = empty(i as u16);
-        i += 1;
     }
     h.made = heap::CAP + 1;
     freed(h, (heap::CAP - 1) as u16)

@@ -1,172 +1,167 @@
 // What is written: plain text, and the answers of the calls. Each answer ends its line.
 use clock::{Change, Changed};
 use heap::{AfterPush, AfterRemove, Entry, Peeked, Pushed, Removed};
-use libc::STDOUT_FILENO;
 use refusals::Refusal;
 use refusals::fault::Fault;
 use refusals::time::{Left, Time};
+use std::io;
 use timers::Reply;
 use timers::left::Least;
 use word::Polled;
 
 // Writes a text.
-pub fn text(s: &[u8]) {
-    io::write_all(STDOUT_FILENO, s);
+pub fn text(rt: &impl Print, s: &[u8]) -> io::Result<()> {
+    rt.write_all(s)
 }
 
 // Writes a text and a number.
-fn number(before: &[u8], n: u64) {
-    io::write_all(STDOUT_FILENO, before);
-    io::print_decimal(STDOUT_FILENO, n);
+fn number(rt: &impl Print, before: &[u8], n: u64) -> io::Result<()> {
+    text(rt, before)?;
+    print!(rt; "{n}")
 }
 
 // Writes a number that may be below zero.
-fn signed(n: i64) {
+fn signed(rt: &impl Print, n: i64) -> io::Result<()> {
     if n < 0 {
-        text(b"-");
+        text(rt, b"-")?;
     }
-    number(b"", refusals::time::size(n));
+    number(rt, b"", refusals::time::size(n))
 }
 
 // Writes a refusal by its number, and the fault that an unsound state is refused for.
-fn refused(why: Refusal) {
-    number(b"refused ", refusals::number(why) as u64);
+fn refused(rt: &impl Print, why: Refusal) -> io::Result<()> {
+    number(rt, b"refused ", u64::from(refusals::number(why)))?;
     match why {
-        Refusal::Unsound(f) => fault(f),
-        _ => {}
+        Refusal::Unsound(f) => fault(rt, f),
+        _ => Ok(()),
     }
 }
 
 // Writes a fault: its kind, and where it is.
-fn fault(f: Fault) {
+fn fault(rt: &impl Print, f: Fault) -> io::Result<()> {
     match f {
-        Fault::Count => text(b", count"),
-        Fault::Position(_) => text(b", position"),
-        Fault::Order(_) => text(b", order"),
-        Fault::FreeChain(_) => text(b", free chain"),
-        Fault::List(_) => text(b", list"),
-        Fault::Place(_) => text(b", place"),
+        Fault::Count => text(rt, b", count")?,
+        Fault::Position(_) => text(rt, b", position")?,
+        Fault::Order(_) => text(rt, b", order")?,
+        Fault::FreeChain(_) => text(rt, b", free chain")?,
+        Fault::List(_) => text(rt, b", list")?,
+        Fault::Place(_) => text(rt, b", place")?,
     }
-    number(b" ", refusals::fault::at(f));
+    number(rt, b" ", refusals::fault::at(f))
 }
 
 // Writes what a poll found.
-fn polled(found: Polled) {
+fn polled(rt: &impl Print, found: Polled) -> io::Result<()> {
     match found {
-        Polled::Pending => text(b"pending"),
-        Polled::Fired => text(b"fired"),
-        Polled::Gone => text(b"gone"),
+        Polled::Pending => text(rt, b"pending"),
+        Polled::Fired => text(rt, b"fired"),
+        Polled::Gone => text(rt, b"gone"),
     }
 }
 
 // Writes what a call on a set answered, and ends the line.
-pub fn reply(r: Reply) {
+pub fn reply(rt: &impl Print, r: Reply) -> io::Result<()> {
     match r {
         Reply::Added(handle) => {
-            number(b"", handle.place.0 as u64);
-            number(b":", handle.uses as u64);
+            number(rt, b"", u64::from(handle.place.0))?;
+            number(rt, b":", u64::from(handle.uses))?;
         }
-        Reply::Done => text(b"done"),
+        Reply::Done => text(rt, b"done")?,
         Reply::Ran { reported, popped } => {
-            number(b"reported ", reported as u64);
-            number(b" popped ", popped as u64);
+            number(rt, b"reported ", reported as u64)?;
+            number(rt, b" popped ", popped as u64)?;
         }
-        Reply::WakeAt(at) => number(b"wake ", at),
-        Reply::NoWake => text(b"no wake"),
-        Reply::Found(found) => polled(found),
-        Reply::Ticked(at) => number(b"ticked ", at),
-        Reply::Refused(why) => refused(why),
+        Reply::WakeAt(at) => number(rt, b"wake ", at)?,
+        Reply::NoWake => text(rt, b"no wake")?,
+        Reply::Found(found) => polled(rt, found)?,
+        Reply::Ticked(at) => number(rt, b"ticked ", at)?,
+        Reply::Refused(why) => refused(rt, why)?,
     }
-    text(b"\n");
+    text(rt, b"\n")
 }
 
 // Writes an entry: its deadline and its slot.
-fn entry(e: Entry) {
-    number(b"", e.at);
-    number(b" in slot ", e.slot.0 as u64);
+fn entry(rt: &impl Print, e: Entry) -> io::Result<()> {
+    number(rt, b"", e.at)?;
+    number(rt, b" in slot ", u64::from(e.slot.0))
 }
 
 // Writes what a push answered, and ends the line.
-pub fn pushed(a: AfterPush) {
-    let answer = a.answer;
-    match answer {
+pub fn pushed(rt: &impl Print, a: AfterPush) -> io::Result<()> {
+    match a.answer {
         Pushed::Done { slot, swaps } => {
-            number(b"slot ", slot.0 as u64);
-            number(b" swaps ", swaps as u64);
+            number(rt, b"slot ", u64::from(slot.0))?;
+            number(rt, b" swaps ", swaps as u64)?;
         }
-        Pushed::Refused(why) => refused(why),
+        Pushed::Refused(why) => refused(rt, why)?,
     }
-    text(b"\n");
+    text(rt, b"\n")
 }
 
 // Writes what a removal or a pop answered, and ends the line.
-pub fn removed(a: AfterRemove) {
-    let answer = a.answer;
-    match answer {
+pub fn removed(rt: &impl Print, a: AfterRemove) -> io::Result<()> {
+    match a.answer {
         Removed::Done { entry: e, swaps } => {
-            entry(e);
-            number(b" swaps ", swaps as u64);
+            entry(rt, e)?;
+            number(rt, b" swaps ", swaps as u64)?;
         }
-        Removed::Nothing => text(b"nothing"),
-        Removed::Refused(why) => refused(why),
+        Removed::Nothing => text(rt, b"nothing")?,
+        Removed::Refused(why) => refused(rt, why)?,
     }
-    text(b"\n");
+    text(rt, b"\n")
 }
 
 // Writes what a peek answered, and ends the line.
-pub fn peeked(p: Peeked) {
+pub fn peeked(rt: &impl Print, p: Peeked) -> io::Result<()> {
     match p {
-        Peeked::Head(e) => entry(e),
-        Peeked::Nothing => text(b"nothing"),
-        Peeked::Refused(why) => refused(why),
+        Peeked::Head(e) => entry(rt, e)?,
+        Peeked::Nothing => text(rt, b"nothing")?,
+        Peeked::Refused(why) => refused(rt, why)?,
     }
-    text(b"\n");
+    text(rt, b"\n")
 }
 
 // Writes what a clock's reading answered, and ends the line.
-pub fn time(t: Time) {
+pub fn time(rt: &impl Print, t: Time) -> io::Result<()> {
     match t {
-        Time::At(at) => number(b"", at),
-        Time::Refused(why) => refused(why),
+        Time::At(at) => number(rt, b"", at)?,
+        Time::Refused(why) => refused(rt, why)?,
     }
-    text(b"\n");
+    text(rt, b"\n")
 }
 
 // Writes what a time left answered, and ends the line.
-pub fn left(l: Left) {
+pub fn left(rt: &impl Print, l: Left) -> io::Result<()> {
     match l {
-        Left::Nanos(n) => signed(n),
-        Left::Refused(why) => refused(why),
+        Left::Nanos(n) => signed(rt, n)?,
+        Left::Refused(why) => refused(rt, why)?,
     }
-    text(b"\n");
+    text(rt, b"\n")
 }
 
 // Writes what a least left answered, and ends the line.
-pub fn least(l: Least) {
+pub fn least(rt: &impl Print, l: Least) -> io::Result<()> {
     match l {
-        Least::Nothing => text(b"none"),
-        Least::Nanos(n) => signed(n),
-        Least::Refused(why) => refused(why),
+        Least::Nothing => text(rt, b"none")?,
+        Least::Nanos(n) => signed(rt, n)?,
+        Least::Refused(why) => refused(rt, why)?,
     }
-    text(b"\n");
+    text(rt, b"\n")
 }
 
 // Writes what a change of a clock answered, and ends the line.
-pub fn changed(c: Changed) {
-    let answer = c.answer;
-    match answer {
-        Change::Done => text(b"done"),
-        Change::Refused(why) => refused(why),
+pub fn changed(rt: &impl Print, c: Changed) -> io::Result<()> {
+    match c.answer {
+        Change::Done => text(rt, b"done")?,
+        Change::Refused(why) => refused(rt, why)?,
     }
-    text(b"\n");
+    text(rt, b"\n")
 }
 
 // Writes the words of a list, and ends the line.
-pub fn words(list: &[u64]) {
-    let mut i: usize = 0;
-    while i < list.len() {
-        number(b" ", list[i]);
-        i += 1;
+pub fn words(rt: &impl Print, list: &[u64]) -> io::Result<()> {
+    for word in list {
+        number(rt, b" ", *word)?;
     }
-    text(b"\n");
+    text(rt, b"\n")
 }

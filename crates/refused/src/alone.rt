@@ -3,95 +3,105 @@
 use handmade::heaps::{entry, full_heap, one, two, vacated};
 use handmade::tell;
 use heap::{Heap, Place, Slot};
+use std::io;
 
 // What the heap is, and what a push of an entry of deadline 5 answers.
-fn push(what: &[u8], h: Heap) {
-    tell::text(what);
-    tell::pushed(heap::push(h, 5, 0, Place(0)));
+fn push(rt: &impl Print, what: &[u8], h: Heap) -> io::Result<()> {
+    tell::text(rt, what)?;
+    tell::pushed(rt, heap::push(h, 5, 0, Place(0)))
 }
 
 // What the heap is, and what the removal of a slot answers.
-fn remove(what: &[u8], h: Heap, slot: Slot) {
-    tell::text(what);
-    tell::removed(heap::remove(h, slot));
+fn remove(rt: &impl Print, what: &[u8], h: Heap, slot: Slot) -> io::Result<()> {
+    tell::text(rt, what)?;
+    tell::removed(rt, heap::remove(h, slot))
 }
 
 // What the heap is, and what a pop answers.
-fn pop(what: &[u8], h: Heap) {
-    tell::text(what);
-    tell::removed(heap::pop(h));
+fn pop(rt: &impl Print, what: &[u8], h: Heap) -> io::Result<()> {
+    tell::text(rt, what)?;
+    tell::removed(rt, heap::pop(h))
 }
 
 // What the heap is, and what a peek answers.
-fn peek(what: &[u8], h: Heap) {
-    tell::text(what);
-    tell::peeked(heap::peek(h));
+fn peek(rt: &impl Print, what: &[u8], h: Heap) -> io::Result<()> {
+    tell::text(rt, what)?;
+    tell::peeked(rt, heap::peek(h))
 }
 
 // Every call on the heaps of row 8: a child as late as its parent is sound, and an earlier one is not.
-fn ordered() {
+fn ordered(rt: &impl Print) -> io::Result<()> {
     let sound = two(entry(5, 0, 0), entry(5, 1, 1));
     let unsound = two(entry(5, 0, 0), entry(4, 1, 1));
-    push(b"a heap of deadlines 5 and 5: push ", sound);
+    push(rt, b"a heap of deadlines 5 and 5: push ", sound)?;
     push(
+        rt,
         b"row 8, clause 15, a heap of deadlines 5 and 4: push ",
         unsound,
-    );
+    )?;
     remove(
+        rt,
         b"a heap of deadlines 5 and 5: remove slot 0 ",
         sound,
         Slot(0),
-    );
+    )?;
     remove(
+        rt,
         b"row 8, clause 15, a heap of deadlines 5 and 4: remove slot 0 ",
         unsound,
         Slot(0),
-    );
-    pop(b"a heap of deadlines 5 and 5: pop ", sound);
+    )?;
+    pop(rt, b"a heap of deadlines 5 and 5: pop ", sound)?;
     pop(
+        rt,
         b"row 8, clause 15, a heap of deadlines 5 and 4: pop ",
         unsound,
-    );
-    peek(b"a heap of deadlines 5 and 5: peek ", sound);
+    )?;
+    peek(rt, b"a heap of deadlines 5 and 5: peek ", sound)?;
     peek(
+        rt,
         b"row 8, clause 15, a heap of deadlines 5 and 4: peek ",
         unsound,
-    );
+    )
 }
 
 // A full heap, and the same with an entry more counted than it has room for.
-fn filled() {
-    push(b"a full heap: push ", full_heap());
+fn filled(rt: &impl Print) -> io::Result<()> {
+    push(rt, b"a full heap: push ", full_heap())?;
     push(
+        rt,
         b"row 1, clauses 11 and 13, an entry too many: push ",
         handmade::heaps::with_one_more_entry(full_heap()),
-    );
+    )
 }
 
 // Slots with no entry, and heaps with none.
-fn vacant() {
+fn vacant(rt: &impl Print) -> io::Result<()> {
     remove(
+        rt,
         b"a heap of one slot: remove slot 1 ",
         one(entry(5, 0, 0)),
         Slot(1),
-    );
+    )?;
     remove(
+        rt,
         b"a heap of one slot: remove slot 65535 ",
         one(entry(5, 0, 0)),
         Slot(65_535),
-    );
+    )?;
     remove(
+        rt,
         b"a heap whose one slot is empty: remove slot 0 ",
         vacated(),
         Slot(0),
-    );
-    pop(b"a heap whose one slot is empty: pop ", vacated());
-    peek(b"a heap whose one slot is empty: peek ", vacated());
+    )?;
+    pop(rt, b"a heap whose one slot is empty: pop ", vacated())?;
+    peek(rt, b"a heap whose one slot is empty: peek ", vacated())
 }
 
 // All of them.
-pub fn run() {
-    ordered();
-    filled();
-    vacant();
+pub fn run(rt: &impl Print) -> io::Result<()> {
+    ordered(rt)?;
+    filled(rt)?;
+    vacant(rt)
 }

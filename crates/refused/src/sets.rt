@@ -31,7 +31,5 @@ pub fn closed(s: Set) -> Set {
 
 // The set after an add.
 pub fn added(s: Set, due: u64) -> Set {
-    let a = timers::add(s, due);
-    let g = a.set;
-    g
+    timers::add(s, due).set
 }
