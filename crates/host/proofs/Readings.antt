@@ -5,19 +5,17 @@ use mathlib.Core.Path.{◌≡◌, refl, sym, ap, subst, ◌∙◌}
 use mathlib.Core.Option.{none}
 use mathlib.Core.List.{List, [], ◌∷◌}
 use Prim.Native.Nat.{ℕ}
-use types.Run.{OneOf, miss}
-use denote.Enum.Declared.{tag_of}
 use Rattle.refusals.specs.declared.Refusal.{Refusal}
 use Rattle.refusals.specs.declared.Refusal.TheVariants.{Unsound, Closed, DeadHandle, Full, ShortList, TimeOverflow, CounterBehind, WrongMode, ZeroPeriod, NotFired, VacantSlot, BadRecord, BadImage}
 use Rattle.refusals.specs.Answer.{Answer, accepted, refused, unsound, refuse, Outcome, Nothing, done, kept}
 use Rattle.refusals.proofs.Refusing.{any_refusal}
+use Rattle.state.specs.declared.Handle.{Handle}
 use Rattle.state.specs.declared.Set.{Set}
 use Rattle.timers.specs.declared.After.{After}
 use Rattle.timers.specs.declared.Reply.{Reply}
 use Rattle.timers.specs.declared.Reply.TheVariants as R
 use Rattle.timers.specs.Values.{Value, handle_in, reports_in}
 use Rattle.timers.specs.Calls.{said, told}
-use Rattle.timers.specs.contracts.Reply as Reply
 use Rattle.image.specs.declared.Reading.{Reading}
 use Rattle.image.specs.declared.Reply as Said
 use Rattle.image.specs.declared.Reply.TheVariants as I
@@ -101,8 +99,8 @@ ends b o {b'} {n} e l = go o.answer l
     go (unsound x) l = (l.image, l.status)
 
 -- what replies of another kind do not have
-pub not_added : (y : Reply) (n : ℕ) → OneOf (1 ∷ 2 ∷ 3 ∷ 4 ∷ 5 ∷ 6 ∷ 7 ∷ []) (tag_of Reply.the_type y) → n ≡ word_or n (handle_in (said y))
-not_added (R.Added h) n k = absurd (miss (1 ∷ 2 ∷ 3 ∷ 4 ∷ 5 ∷ 6 ∷ 7 ∷ []) 0 tt k)
+pub not_added : (y : Reply) (n : ℕ) → ((h : Handle) → y ≡ R.Added h → ⊥) → n ≡ word_or n (handle_in (said y))
+not_added (R.Added h) n k = absurd (k h refl)
 not_added R.Done n k = refl
 not_added (R.Ran m p) n k = refl
 not_added (R.WakeAt t) n k = refl
@@ -111,10 +109,10 @@ not_added (R.Found p) n k = refl
 not_added (R.Ticked t) n k = refl
 not_added (R.Refused w) n k = no_handle_lem w n
 
-pub not_ran : (y : Reply) (n : ℕ) → OneOf (0 ∷ 1 ∷ 3 ∷ 4 ∷ 5 ∷ 6 ∷ 7 ∷ []) (tag_of Reply.the_type y) → (n ≡ count_or n (said y)) × (0 ≡ reports_in (said y))
+pub not_ran : (y : Reply) (n : ℕ) → ((m p : ℕ) → y ≡ R.Ran m p → ⊥) → (n ≡ count_or n (said y)) × (0 ≡ reports_in (said y))
 not_ran (R.Added h) n k = (refl, refl)
 not_ran R.Done n k = (refl, refl)
-not_ran (R.Ran m p) n k = absurd (miss (0 ∷ 1 ∷ 3 ∷ 4 ∷ 5 ∷ 6 ∷ 7 ∷ []) 2 tt k)
+not_ran (R.Ran m p) n k = absurd (k m p refl)
 not_ran (R.WakeAt t) n k = (refl, refl)
 not_ran R.NoWake n k = (refl, refl)
 not_ran (R.Found p) n k = (refl, refl)
@@ -122,12 +120,12 @@ not_ran (R.Ticked t) n k = (refl, refl)
 not_ran (R.Refused w) n k =
     (no_count w n, any_refusal (λ (a : Answer Value). 0) reports_in (λ m. refl) (λ x. refl) w)
 
-pub not_woken : (y : Reply) → OneOf (0 ∷ 1 ∷ 2 ∷ 5 ∷ 6 ∷ []) (tag_of Reply.the_type y) → (none ≡ wake_in (said y)) × (0 ≡ status_of (said y))
-not_woken (R.Added h) k = (refl, refl)
-not_woken R.Done k = (refl, refl)
-not_woken (R.Ran m p) k = (refl, refl)
-not_woken (R.WakeAt t) k = absurd (miss (0 ∷ 1 ∷ 2 ∷ 5 ∷ 6 ∷ []) 3 tt k)
-not_woken R.NoWake k = absurd (miss (0 ∷ 1 ∷ 2 ∷ 5 ∷ 6 ∷ []) 4 tt k)
-not_woken (R.Found p) k = (refl, refl)
-not_woken (R.Ticked t) k = (refl, refl)
-not_woken (R.Refused w) k = absurd (miss (0 ∷ 1 ∷ 2 ∷ 5 ∷ 6 ∷ []) 7 tt k)
+pub not_woken : (y : Reply) → ((t : ℕ) → y ≡ R.WakeAt t → ⊥) → (y ≡ R.NoWake → ⊥) → ((w : Refusal) → y ≡ R.Refused w → ⊥) → (none ≡ wake_in (said y)) × (0 ≡ status_of (said y))
+not_woken (R.Added h) a b c = (refl, refl)
+not_woken R.Done a b c = (refl, refl)
+not_woken (R.Ran m p) a b c = (refl, refl)
+not_woken (R.WakeAt t) a b c = absurd (a t refl)
+not_woken R.NoWake a b c = absurd (b refl)
+not_woken (R.Found p) a b c = (refl, refl)
+not_woken (R.Ticked t) a b c = (refl, refl)
+not_woken (R.Refused w) a b c = absurd (c w refl)
