@@ -11,8 +11,7 @@ use Rattle.timers.specs.declared.After.{After}
 use Rattle.timers.specs.Calls.{Value, Lent, lent, step, said, told_with}
 use Rattle.records.specs.declared.Wake.{Wake}
 use Rattle.records.specs.Answers.{made, Answered, operation_of, wake_after, tells, answer_of, said_wake}
-use Rattle.records.proofs.answer.Statement.{statement}
-use Rattle.records.proofs.answer.Tie as tie
+use Rattle.records.proofs.answer.Goals as goal
 
 -- what is told of a call that was made as the rule says
 told_so : (s : Set) (c : Call) (l l' : List ℕ) (a : After) (op : ℕ) (w : Wake) → op ≡ operation_of c → said_wake w ≡ wake_after a.set (said a.reply)
@@ -21,12 +20,8 @@ unfolding answer_of
 told_so s c l l' a op w eo ew ea =
     (λ i. record { state = lent a.set l'; told = made (eo i) (said a.reply) (ew i) }) ∙ ap (λ (o : Outcome Lent Value). tells c o) ea
 
-returns : tie.Need-returns
+pub returns : goal.returns
 returns c =
-    let p = c.before.before.before.before in
-    let a = p.before.before.before.before.args in
-    told_so a.s a.call a.list.now _ p.perform.result _ c.wake-after.result
-    p.before.before.operation.ensures c.wake-after.ensures p.perform.ensures
-
-pub answer_spec : {M : Type 1} → statement M
-answer_spec = tie.close (tie.spec (λ c κs. search rules) (λ c κs. search rules) (λ c κs. search rules) (λ c. search rules) returns)
+    let a = c.args in
+    told_so a.s a.call a.list.now _ c.perform-a.result _ c.wake_after-wake.result
+    c.operation-operation.ensures c.wake_after-wake.ensures c.perform-a.ensures

@@ -8,15 +8,11 @@ use lib.ListN.{length}
 use lib.Seq.{length-take-le}
 use Rattle.records.specs.Lines.{room}
 use Rattle.records.proofs.Putting.{puts_whole, puts_within}
-use Rattle.records.proofs.write_line.Statement.{statement}
-use Rattle.records.proofs.write_line.Tie as tie
+use Rattle.records.proofs.write_line.Goals as goal
 
-returns : tie.Need-returns
+pub returns : goal.returns
 returns c =
-    let p = c.put-line.ensures in
-    let h : room ≤ length c.before.before.before.args.out.now = search rules in
+    let p = c.put_line.ensures in
+    let h : room ≤ length c.args.out.now = search rules in
     let w = puts_within p (omega arith) in
     record { written = puts_whole p h; within = w; counted = sym (length-take-le _ _ w) }
-
-pub write_line_spec : {M : Type 1} → statement M
-write_line_spec = tie.close (tie.spec (λ c κs. search rules) returns)

@@ -1,0 +1,10 @@
+-- The call of the record's fields.
+-- Assumes nothing.
+use mathlib.Core.Path.{ap, ◌∙◌}
+use borrow.Author.Rules.{rules}
+use Rattle.records.specs.Records.{call_of, decode_of}
+use Rattle.records.proofs.decode.Goals as goal
+
+pub returns : goal.returns
+unfolding decode_of
+returns c = c.call_of.ensures ∙ ap call_of c.parted.ensures
