@@ -1,0 +1,18 @@
+-- At each turn the places to go make of the set what all of them make of the first one. Where more places are left out than there are,
+-- none is to go.
+-- Assumes nothing.
+use mathlib.Core.Path.{◌≡◌, refl, sym, ap, ◌∙◌}
+use Prim.Native.Nat.{ℕ, ◌+◌, ◌-◌, ◌%◌}
+use native.Mathlib.Omega.{arith}
+use borrow.Author.Rules.{rules}
+use Rattle.heap.specs.Capacity.{cap}
+use Rattle.state.specs.declared.Set.{Set}
+use Rattle.depths.specs.Rules.{made_of, each_from, each_of}
+use Rattle.depths.proofs.Walks.{each_goes, each_done}
+use Rattle.depths.proofs.each.Given as goal
+
+abbrev pub invariant-loop-p : goal.invariant-loop-p
+invariant-loop-p l = each_from (cap - l.p) l.number l.p l.g ≡ each_from (cap - l.initial.p) l.number l.initial.p l.initial.g
+
+abbrev pub decreases-loop-p : goal.decreases-loop-p
+decreases-loop-p l = cap - l.p

@@ -1,0 +1,15 @@
+-- At each turn the rounds to go answer what all of them answer from the start.
+-- Assumes nothing.
+use Rattle.std.proofs.Common.{◌≡◌, ℕ, ◌-◌, replicate, sym, refl, ap, ◌∙◌, arith, rules}
+use Rattle.heap.specs.Capacity.{cap}
+use Rattle.state.specs.declared.Set.{Set}
+use Rattle.rounds.specs.Rules.{least_of, Lent, round_of, rounds_from, rounds_of}
+use Rattle.rounds.specs.Promises.{lent}
+use Rattle.rounds.proofs.Walks.{rounds_goes, rounds_done}
+use Rattle.rounds.proofs.rounds_run.Given as goal
+
+abbrev pub invariant-loop-left : goal.invariant-loop-left
+invariant-loop-left l = rounds_from l.left l.step l.reading (lent l.run l.list) ≡ rounds_from l.turns l.step 0 (lent l.initial.run l.initial.list)
+
+abbrev pub decreases-loop-left : goal.decreases-loop-left
+decreases-loop-left l = l.left
