@@ -1,6 +1,6 @@
 -- No function has a second answer: its promise is one equation for each thing that it leaves or answers.
 -- Assumes nothing.
-use mathlib.Core.Path.{◌≡◌, sym, ◌∙◌}
+use mathlib.Core.Path.{sym, ◌∙◌}
 use mathlib.Core.List.{List}
 use Prim.Native.Nat.{ℕ}
 use Rattle.theory.specs.Promise.{NoSecond}

@@ -5,6 +5,7 @@
 // Bytes pass exactly where they are those of a record whose numbers fit; what is read of bytes that pass has these bytes. What is
 // read of others is a record all the same, and means nothing.
 #![tactic(auto)]
+
 mod parts;
 
 ghost use Rattle.std.specs.Prelude.{◌+◌, ◌≤◌, length};

@@ -7,6 +7,7 @@
 // `remove_sound`, `pop_sound` and `peek_sound` do the work for a caller that has made the test itself. What an entry's place and
 // generation mean is the caller's affair.
 #![tactic(auto)]
+
 pub mod fault;
 mod walk;
 

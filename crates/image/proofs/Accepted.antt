@@ -23,9 +23,9 @@ use Rattle.state.proofs.Test.{sound-told, sound-tells}
 use Rattle.digits.specs.Digits.{Bytes}
 use Rattle.digits.proofs.Rows.{length-rows}
 use Rattle.image.specs.Image.{size, image_fine, image_of, set_from, entries_of, slots_of, cleared}
-use Rattle.image.specs.Calls.{barred, read_by, read_of, written_by, write_of}
+use Rattle.image.specs.Calls.{barred, read_by, read_of, write_of}
 use Rattle.image.specs.Accepted.{Pictures}
-use Rattle.image.proofs.Calling.{read_unfine, read_by_lem, write_by}
+use Rattle.image.proofs.Calling.{read_by_lem, write_by}
 use Rattle.image.proofs.Written.{image-fine, read-written, written_read, set-in}
 use Rattle.image.proofs.Clearing.{cleared-same, cleared-fault}
 use Rattle.image.proofs.Fitting.{sound_fits, fits_widths}

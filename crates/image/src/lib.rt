@@ -3,6 +3,7 @@
 //
 // What is refused with 13 is found before the soundness of the set is asked. Reading and writing are one pass over the bytes each.
 #![tactic(auto)]
+
 mod arrays;
 
 ghost use Rattle.std.specs.Prelude.{◌≡◌, length};

@@ -13,7 +13,6 @@ use Rattle.heap.proofs.Soundness.SoundKept.{pop-sound}
 use Rattle.state.specs.declared.Waiting.TheVariants.{No}
 use Rattle.state.specs.declared.Held.TheVariants as Held
 use Rattle.state.specs.declared.First.{First}
-use Rattle.state.specs.declared.First.TheVariants as First
 use Rattle.state.specs.declared.Set.{Set}
 use Rattle.state.specs.State.{no_timer}
 use Rattle.moves.specs.Rules.{with_heap, with_first, list_turn, marked_life, unlisted_of, unlist_from, popped_of, empty_from}

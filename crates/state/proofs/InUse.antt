@@ -28,7 +28,6 @@ use Rattle.heap.proofs.Soundness.SoundFacts.{full_back}
 use Rattle.heap.proofs.Testing.Test.{consistent-sound}
 use Rattle.heap.proofs.UnusedRoom.InUseTest as HeapTest
 use Rattle.state.specs.declared.Held.{Held}
-use Rattle.state.specs.declared.Held.TheVariants as Held
 use Rattle.state.specs.declared.Set.{Set}
 use Rattle.state.specs.State.{timer_at}
 use Rattle.state.specs.Faults.{waits_at, after_at, list_scan, entry_has, held_ok, life_ok, closed_ok, place_ok, entry_fits, entry_ok, lower, entry_scan, first_place, place_scan, fault_of, sound_of}

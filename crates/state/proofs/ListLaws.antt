@@ -18,7 +18,6 @@ use Rattle.heap.specs.declared.Place.{Place}
 use Rattle.state.specs.declared.Waiting.{Waiting}
 use Rattle.state.specs.declared.Waiting.TheVariants.{No, Last, Before}
 use Rattle.state.specs.declared.First.{First}
-use Rattle.state.specs.declared.First.TheVariants as First
 use Rattle.state.specs.declared.Set.{Set}
 use Rattle.state.specs.State.{timer_at, is_waiting, next_in, head_of, head_after}
 use Rattle.state.specs.Faults.{waits_at, after_at, list_scan}

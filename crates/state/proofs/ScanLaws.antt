@@ -17,7 +17,6 @@ use Rattle.heap.specs.declared.Pos.{Pos}
 use Rattle.heap.specs.declared.SlotState.TheVariants.{Full, Empty}
 use Rattle.heap.specs.Rules.{entry_at, state_at}
 use Rattle.state.specs.declared.Held.{Held}
-use Rattle.state.specs.declared.Held.TheVariants as Held
 use Rattle.state.specs.declared.Set.{Set}
 use Rattle.state.specs.State.{timer_at}
 use Rattle.state.specs.Faults.{held_ok, entry_has, life_ok, closed_ok, place_ok, entry_fits, entry_ok, lower, entry_scan}

@@ -4,6 +4,7 @@
 // A place is one struct whose enums leave nothing over: only a live timer has a deadline, and a free place has no word. The
 // waiting list runs through the places: `first` names the place at its head, and each waiting timer the next one.
 #![tactic(auto)]
+
 pub mod fault;
 
 ghost use Rattle.state.specs.Promises.{Fresh, IsSound, Words, Names};

@@ -13,7 +13,6 @@ use Rattle.word.specs.Rules as Word
 use Rattle.interval.specs.declared.Policy.{Policy}
 use Rattle.interval.specs.Rules.{tick_of, restart_of}
 use Rattle.state.specs.declared.Life.{Life}
-use Rattle.state.specs.declared.Life.TheVariants as Life
 use Rattle.state.specs.declared.Set.{Set}
 use Rattle.state.specs.declared.Handle.{Handle}
 use Rattle.state.specs.State.{timer_at}

@@ -3,6 +3,7 @@
 // Every call takes any set. It tests the set's soundness first, then whether it may be made; a call that is refused hands back the
 // set, and leaves the lent list as it was. `perform` makes a call by its name.
 #![tactic(auto)]
+
 pub mod left;
 
 ghost use Rattle.timers.specs.Promises.{Adds, Resets, Cancels, Drains, Advances, Turns, Wakes, Polls, Closes, Ticks, Restarts, Performs, Guards, Opens, Enters, Admits, Finds, Refuses, ResetsTo};

@@ -3,7 +3,6 @@
 use mathlib.Core.Bool.{◌&&◌}
 use Rattle.cells.specs.Cells.{entry_of}
 use Rattle.cells.specs.Fine.{entry_spare, entry_range, entry_clear, entry_in}
-use borrow.Author.Rules.{rules}
 use Rattle.cells.proofs.entry_at.Goals as goal
 
 pub returns : goal.returns

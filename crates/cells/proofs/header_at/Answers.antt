@@ -7,7 +7,6 @@ use lib.Dec.{eqb}
 use Rattle.cells.specs.Parts.{first_from}
 use Rattle.cells.specs.Cells.{header_of}
 use Rattle.cells.specs.Fine.{header_spare, header_range, header_clear, header_in}
-use borrow.Author.Rules.{rules}
 use Rattle.cells.proofs.header_at.Goals as goal
 
 pub returns : goal.returns

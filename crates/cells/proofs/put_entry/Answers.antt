@@ -2,7 +2,6 @@
 -- Assumes nothing.
 use Rattle.digits.proofs.Stores.{puts_then}
 use Rattle.cells.specs.Cells.{entry_bytes}
-use borrow.Author.Rules.{rules}
 use Rattle.cells.proofs.put_entry.Goals as goal
 
 pub returns : goal.returns

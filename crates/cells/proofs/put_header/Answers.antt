@@ -1,13 +1,9 @@
 -- One field behind the other.
 -- Assumes nothing.
-use mathlib.Core.Path.{ap}
 use Prim.Native.Nat.{◌+◌, ◌*◌}
-use native.Mathlib.Omega.{arith}
 use Rattle.digits.proofs.Stores.{puts_then, puts-number}
-use Rattle.cells.specs.declared.parts.Part.{Part}
 use Rattle.cells.specs.Cells.{header_bytes}
-use Rattle.cells.proofs.Tags.{mark_bit, bit_small, first_small}
-use borrow.Author.Rules.{rules}
+use Rattle.cells.proofs.Tags.{mark_bit}
 use Rattle.cells.proofs.put_header.Goals as goal
 
 pub returns : goal.returns

@@ -2,7 +2,6 @@
 -- Assumes nothing.
 use Rattle.digits.proofs.Stores.{puts-number}
 use Rattle.cells.specs.Cells.{slot_bytes}
-use borrow.Author.Rules.{rules}
 use Rattle.cells.proofs.put_slot.Goals as goal
 
 pub returns : goal.returns

@@ -1,14 +1,8 @@
 -- One field behind the other.
 -- Assumes nothing.
-use mathlib.Core.Path.{ap}
 use Prim.Native.Nat.{◌+◌, ◌*◌}
-use native.Mathlib.Omega.{arith}
 use Rattle.digits.proofs.Stores.{puts_then, puts-number}
-use Rattle.cells.specs.declared.parts.LifeParts.{LifeParts}
-use Rattle.cells.specs.declared.parts.Part.{Part}
 use Rattle.cells.specs.Cells.{timer_bytes}
-use Rattle.cells.proofs.Tags.{life_small, waiting_small, held_small}
-use borrow.Author.Rules.{rules}
 use Rattle.cells.proofs.put_timer.Goals as goal
 
 pub returns : goal.returns

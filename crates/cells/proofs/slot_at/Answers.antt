@@ -6,7 +6,6 @@ use Prim.Native.Nat.{◌/◌, ◌%◌}
 use Rattle.cells.specs.Parts.{state_from}
 use Rattle.cells.specs.Cells.{slot_of}
 use Rattle.cells.specs.Fine.{slot_spare, slot_range, slot_clear, slot_in}
-use borrow.Author.Rules.{rules}
 use Rattle.cells.proofs.slot_at.Goals as goal
 
 pub returns : goal.returns

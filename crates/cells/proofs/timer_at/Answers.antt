@@ -6,7 +6,6 @@ use Prim.Native.Nat.{◌/◌, ◌%◌}
 use Rattle.cells.specs.Parts.{life_from, waiting_from, held_from}
 use Rattle.cells.specs.Cells.{timer_of}
 use Rattle.cells.specs.Fine.{timer_spare, timer_range, timer_clear, timer_in}
-use borrow.Author.Rules.{rules}
 use Rattle.cells.proofs.timer_at.Goals as goal
 
 pub returns : goal.returns

@@ -16,7 +16,7 @@ use Rattle.heap.specs.declared.Pos.{Pos}
 use Rattle.heap.specs.declared.Place.{Place}
 use Rattle.heap.specs.declared.Entry.{Entry}
 use Rattle.heap.specs.declared.Heap.{Heap}
-use Rattle.heap.specs.Rules.{no_entry, entry_at, items, key, before, put_at, up_from, down_from, taken_of, with_len, added_of, new_entry, pushed_of, vacated_of, filled_of, removed_of}
+use Rattle.heap.specs.Rules.{no_entry, entry_at, items, key, before, put_at, taken_of, with_len, added_of, new_entry, pushed_of, vacated_of, filled_of, removed_of}
 use Rattle.heap.proofs.AsList.Items.{items_length, items_at, items_put, put_len, put_long, Walked, walked_stay, walked_as, choose}
 use Rattle.heap.proofs.AsList.ItemsUp.{up_walked}
 use Rattle.heap.proofs.AsList.ItemsDown.{down_walked}

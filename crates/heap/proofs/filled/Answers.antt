@@ -1,14 +1,10 @@
 -- By whether the hole was last, and by how the last entry compares with the removed one, the answer is `filled_of`; the entry that
 -- moves keeps its slot in the slab.
 -- Assumes nothing.
-use mathlib.Core.Path.{◌≡◌, sym, ◌∙◌}
-use mathlib.Core.Bool.{true, false}
-use Prim.Native.Nat.{◌-◌, ◌<◌}
-use native.Mathlib.Omega.{arith}
+use mathlib.Core.Path.{sym, ◌∙◌}
 use borrow.Author.Tests.{eq-eqb, ne_eqb}
-use Rattle.heap.specs.Rules.{entry_at, before, filled_of}
+use Rattle.heap.specs.Rules.{filled_of}
 use Rattle.heap.proofs.Walking.Laws.{slots_in_filled}
-use borrow.Author.Rules.{rules}
 use Rattle.heap.proofs.filled.Goals as goal
 
 pub returns-then-p-last : goal.returns-then-p-last

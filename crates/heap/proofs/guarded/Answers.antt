@@ -1,7 +1,6 @@
 -- The guard answers as the test does, and hands the fault on.
 -- Assumes nothing.
 use mathlib.Core.Path.{sym, ap, ◌∙◌}
-use borrow.Author.Rules.{rules}
 use Rattle.refusals.specs.Faults.{said_verdict}
 use Rattle.heap.specs.Calls.{passing, guard_of}
 use Rattle.heap.proofs.guarded.Goals as goal

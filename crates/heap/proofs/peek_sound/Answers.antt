@@ -2,7 +2,6 @@
 -- Assumes nothing.
 use borrow.Author.Tests.{eq-eqb, ne_eqb}
 use Rattle.heap.specs.Calls.{peek_sound}
-use borrow.Author.Rules.{rules}
 use Rattle.heap.proofs.peek_sound.Goals as goal
 
 pub returns-then-h-eq0 : goal.returns-then-h-eq0

@@ -5,7 +5,7 @@ use borrow.Author.Rules.{rules}
 use lib.ListN.{length}
 use Rattle.theory.proofs.Stores.{unmapped}
 use Rattle.heap.specs.Capacity.{cap}
-use Rattle.heap.proofs.Soundness.Guarding.{passed, turned}
+use Rattle.heap.proofs.Soundness.Guarding.{passed}
 use Rattle.heap.proofs.Testing.Test.{consistent-sound}
 use Rattle.heap.proofs.push.Goals as goal
 

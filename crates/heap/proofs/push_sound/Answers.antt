@@ -1,8 +1,6 @@
 -- While there is room the free head is a slot of the slab, so each step of the push is in range, and together they are `push_sound`.
 -- Assumes nothing.
-use native.Mathlib.Omega.{arith}
 use borrow.Author.Tests.{lt-ltb, le-ltb}
-use borrow.Author.Rules.{rules}
 use Rattle.heap.specs.Rules.{taken_of, added_of, pushed_of}
 use Rattle.heap.specs.Calls.{push_sound}
 use Rattle.heap.proofs.Walking.Laws.{slots_in_taken, slots_in_added}

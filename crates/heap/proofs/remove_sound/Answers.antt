@@ -1,7 +1,6 @@
 -- A full slot names a position of the heap, so what the removal reads and moves is in range, and its steps are `remove_sound`.
 -- Assumes nothing.
 use mathlib.Core.Path.{ap}
-use Prim.Native.Nat.{◌<◌}
 use native.Mathlib.Omega.{arith}
 use borrow.Author.Tests.{lt-ltb, le-ltb}
 use Rattle.heap.specs.declared.Heap.{Heap}
@@ -9,7 +8,6 @@ use Rattle.heap.specs.Rules.{removed_of}
 use Rattle.heap.specs.Calls.{remove_sound}
 use Rattle.heap.proofs.Walking.Laws.{len_vacated, slots_in_vacated}
 use Rattle.heap.proofs.Soundness.SoundFacts.{slots_in_range, full_back}
-use borrow.Author.Rules.{rules}
 use Rattle.heap.proofs.remove_sound.Goals as goal
 
 pub returns-then-h-s : goal.returns-then-h-s

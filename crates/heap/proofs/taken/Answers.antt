@@ -2,7 +2,6 @@
 -- Assumes nothing.
 use borrow.Author.Tests.{eq-eqb, ne_eqb}
 use Rattle.heap.specs.Rules.{taken_of}
-use borrow.Author.Rules.{rules}
 use Rattle.heap.proofs.taken.Goals as goal
 
 pub returns-then-s-n : goal.returns-then-s-n

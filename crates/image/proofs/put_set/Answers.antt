@@ -1,6 +1,5 @@
 -- The parts one behind the other fill the bytes.
 -- Assumes nothing.
-use borrow.Author.Rules.{rules}
 use Rattle.digits.proofs.Stores.{puts_then, puts_whole}
 use Rattle.image.specs.Image.{image_of}
 use Rattle.image.proofs.put_set.Goals as goal

@@ -2,7 +2,6 @@
 -- Assumes nothing.
 use mathlib.Core.Path.{◌≡◌, ap, ◌∙◌}
 use mathlib.Core.Bool.{Bool, ◌&&◌}
-use borrow.Author.Rules.{rules}
 use Rattle.digits.proofs.Passing.{two_tests}
 use Rattle.cells.specs.declared.Header.{Header}
 use Rattle.cells.specs.Cells.{header_of}

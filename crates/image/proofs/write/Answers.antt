@@ -2,7 +2,6 @@
 -- Assumes nothing.
 use mathlib.Core.Path.{sym, ap, ◌∙◌}
 use mathlib.Core.Option.{none, some}
-use borrow.Author.Rules.{rules}
 use Rattle.refusals.specs.Answer.{done}
 use Rattle.refusals.specs.Faults.{said_verdict}
 use Rattle.image.proofs.Calling.{write_long, write_by}

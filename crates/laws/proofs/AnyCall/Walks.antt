@@ -5,7 +5,6 @@ use mathlib.Core.List.{List}
 use Prim.Native.Nat.{ℕ, zero, suc}
 use Rattle.heap.specs.Capacity.{cap}
 use Rattle.state.specs.declared.First.{First}
-use Rattle.state.specs.declared.First.TheVariants as First
 use Rattle.state.specs.declared.Set.{Set}
 use Rattle.moves.specs.Rules.{settled_of, list_turn, drain_from, drained_of, Ring, due_by, rung_of, ring_from, advanced_of, unlisted_of, unlist_from, popped_of, empty_from, sealed, closed_of}
 

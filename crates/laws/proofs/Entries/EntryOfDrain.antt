@@ -14,7 +14,6 @@ use Rattle.heap.specs.declared.Entry.{Entry}
 use Rattle.word.specs.Rules.{generation_of}
 use Rattle.state.specs.declared.Life.TheVariants.{Live}
 use Rattle.state.specs.declared.First.{First}
-use Rattle.state.specs.declared.First.TheVariants as First
 use Rattle.state.specs.declared.Timer.{Timer}
 use Rattle.state.specs.declared.Set.{Set}
 use Rattle.state.specs.State.{timer_at, is_waiting}

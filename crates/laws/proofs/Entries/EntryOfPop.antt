@@ -25,7 +25,6 @@ use Rattle.heap.proofs.Slots.Lookup.{lookup_head, lookup-some}
 use Rattle.heap.proofs.AsList.Ordered.{head_key}
 use Rattle.heap.proofs.Slots.BySlot.{pop-other}
 use Rattle.state.specs.declared.Held.{Held}
-use Rattle.state.specs.declared.Held.TheVariants as Held
 use Rattle.state.specs.declared.Timer.{Timer}
 use Rattle.state.specs.declared.Set.{Set}
 use Rattle.state.specs.State.{no_timer, timer_at, is_waiting}

@@ -14,7 +14,6 @@ use Rattle.state.specs.declared.Life.{Life}
 use Rattle.state.specs.declared.Life.TheVariants.{Free, Live, Cancelled, Retired}
 use Rattle.state.specs.declared.Waiting.{Waiting}
 use Rattle.state.specs.declared.Held.{Held}
-use Rattle.state.specs.declared.Held.TheVariants as Held
 use Rattle.state.specs.declared.Timer.{Timer}
 use Rattle.moves.specs.Rules.{rung_word, rung_life, rung_timer, marked_life}
 use Rattle.timers.specs.Calls.{Timing, timing_of}

@@ -17,7 +17,6 @@ use Rattle.heap.specs.Rules.{entry_at}
 use Rattle.heap.proofs.Slots.Slab.{sound_slab}
 use Rattle.heap.proofs.Slots.Lookup.{lookup_full, lookup_state, lookup-some}
 use Rattle.state.specs.declared.Held.{Held}
-use Rattle.state.specs.declared.Held.TheVariants as Held
 use Rattle.state.specs.declared.First.{First}
 use Rattle.state.specs.declared.Timer.{Timer}
 use Rattle.state.specs.declared.Set.{Set}

@@ -21,7 +21,6 @@ use Rattle.heap.proofs.Slots.Lookup.{lookup-some}
 use Rattle.heap.proofs.Slots.BySlot.{free-none, push_new, push_other, remove_found}
 use Rattle.heap.proofs.Soundness.SoundKept.{push-sound, remove-sound}
 use Rattle.state.specs.declared.Held.{Held}
-use Rattle.state.specs.declared.Held.TheVariants as Held
 use Rattle.moves.specs.Rules.{dropped_of, held_by}
 
 -- the entry that stands in the slot k holds the place p

@@ -18,7 +18,6 @@ use Rattle.heap.specs.Rules.{entry_at, slot_at}
 use Rattle.heap.proofs.Slots.Slab.{sound_slab, slot_apart}
 use Rattle.heap.proofs.Slots.Lookup.{lookup-at}
 use Rattle.state.specs.declared.Held.{Held}
-use Rattle.state.specs.declared.Held.TheVariants as Held
 use Rattle.laws.proofs.Parts.OpenSlots.{Fits, Slots, nothing_at, at_same}
 
 -- the places of the entries below n

@@ -15,7 +15,6 @@ use Rattle.state.specs.declared.Waiting.{Waiting}
 use Rattle.state.specs.declared.Waiting.TheVariants.{No}
 use Rattle.state.specs.declared.Held.TheVariants as Held
 use Rattle.state.specs.declared.First.{First}
-use Rattle.state.specs.declared.First.TheVariants as First
 use Rattle.state.specs.declared.Timer.{Timer}
 use Rattle.state.specs.declared.Set.{Set}
 use Rattle.state.specs.State.{no_timer, timer_at, is_waiting, head_after}

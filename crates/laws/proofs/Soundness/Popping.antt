@@ -27,7 +27,6 @@ use Rattle.heap.proofs.Soundness.SoundKept.{pop-sound}
 use Rattle.heap.proofs.Slots.Lookup.{lookup_head, lookup-some}
 use Rattle.heap.proofs.Slots.BySlot.{pop-gone, pop-other}
 use Rattle.state.specs.declared.Held.{Held}
-use Rattle.state.specs.declared.Held.TheVariants as Held
 use Rattle.state.specs.declared.Waiting.{Waiting}
 use Rattle.state.specs.declared.Timer.{Timer}
 use Rattle.state.specs.declared.Set.{Set}

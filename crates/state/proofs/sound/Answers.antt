@@ -1,7 +1,6 @@
 -- `sound` is right: it says yes exactly where no fault is found.
 -- Assumes nothing.
 use mathlib.Core.Path.{sym, ap, ◌∙◌}
-use borrow.Author.Rules.{rules}
 use Rattle.theory.specs.Chain.{clear}
 use Rattle.refusals.specs.Faults.{said_verdict}
 use Rattle.state.specs.Faults.{sound_of}

@@ -1,9 +1,6 @@
 -- The lowest free place, where there is one, is touched as a live timer's, and named with its use number.
 -- Assumes nothing.
 use mathlib.Core.Path.{sym, ◌∙◌}
-use Prim.Native.Nat.{◌<◌}
-use borrow.Author.Rules.{rules}
-use Rattle.heap.specs.Capacity.{cap}
 use Rattle.timers.specs.Calls.{add_of}
 use Rattle.timers.proofs.Alive.{turned_away, let_through, as_placed, free_place}
 use Rattle.timers.proofs.add.Goals as goal

@@ -1,7 +1,6 @@
 -- A live timer is touched as a cancelled one, with its word.
 -- Assumes nothing.
 use mathlib.Core.Path.{sym, ap, ◌∙◌}
-use borrow.Author.Rules.{rules}
 use Rattle.state.specs.declared.Set.{Set}
 use Rattle.timers.specs.Calls.{cancel_of, gives, nothing}
 use Rattle.timers.proofs.Alive.{at_door, live_place}

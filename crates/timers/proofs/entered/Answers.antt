@@ -1,7 +1,6 @@
 -- The tests of the set, then the handle, in the order of the refusals.
 -- Assumes nothing.
 use mathlib.Core.Path.{sym, ◌∙◌}
-use borrow.Author.Rules.{rules}
 use Rattle.timers.specs.Calls.{open_of}
 use Rattle.timers.proofs.Guarding.{door_shut, door_open}
 use Rattle.timers.proofs.entered.Goals as goal

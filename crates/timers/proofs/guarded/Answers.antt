@@ -2,7 +2,6 @@
 -- Assumes nothing.
 use mathlib.Core.Path.{sym, ap, ◌∙◌}
 use mathlib.Core.Option.{Option}
-use borrow.Author.Rules.{rules}
 use Rattle.refusals.specs.declared.fault.Fault.{Fault}
 use Rattle.refusals.specs.declared.Refusal.TheVariants.{Unsound}
 use Rattle.refusals.specs.Answer.{accepted, refuse}

@@ -2,7 +2,6 @@
 -- Assumes nothing.
 use mathlib.Core.Path.{sym, ◌∙◌}
 use mathlib.Core.Bool.{false}
-use borrow.Author.Rules.{rules}
 use Rattle.timers.specs.Calls.{guard_of}
 use Rattle.timers.proofs.Guarding.{door_shut, door_open}
 use Rattle.timers.proofs.met.Goals as goal

@@ -1,6 +1,5 @@
 -- A handle names its place's timer where the place is in range, the use number is the place's, and the timer is live.
 -- Assumes nothing.
-use borrow.Author.Rules.{rules}
 use borrow.Author.Tests.{lt-ltb, le-ltb, eq-eqb, ne_eqb}
 use Rattle.timers.specs.Calls.{live_at}
 use Rattle.timers.proofs.named.Goals as goal

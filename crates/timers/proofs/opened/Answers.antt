@@ -1,6 +1,5 @@
 -- The first test, then the closed mark, in the order of the refusals.
 -- Assumes nothing.
-use borrow.Author.Rules.{rules}
 use Rattle.timers.specs.Calls.{open_of}
 use Rattle.timers.proofs.Guarding.{sound_none, passed, stopped_first}
 use Rattle.timers.proofs.opened.Goals as goal

@@ -1,7 +1,6 @@
 -- Each call is made by its own function; what only an advance and a turn write to is the list that was lent.
 -- Assumes nothing.
 use mathlib.Core.Path.{ap}
-use borrow.Author.Rules.{rules}
 use Rattle.refusals.specs.Answer.{Outcome}
 use Rattle.state.specs.declared.Set.{Set}
 use Rattle.timers.specs.Calls.{Value, with_list, step}

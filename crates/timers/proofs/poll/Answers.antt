@@ -3,7 +3,6 @@
 use mathlib.Core.Path.{sym, ap, ◌∙◌}
 use mathlib.Core.Bool.{false}
 use Prim.Native.Nat.{ℕ}
-use borrow.Author.Rules.{rules}
 use Rattle.refusals.specs.Answer.{Answer}
 use Rattle.timers.specs.Calls.{gives, polled, poll_by, poll_of}
 use Rattle.timers.proofs.Alive.{at_door}

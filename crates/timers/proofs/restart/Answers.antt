@@ -1,7 +1,6 @@
 -- A live timer is reset to what the interval's rule says, fired or not, or refused as that is.
 -- Assumes nothing.
 use mathlib.Core.Path.{sym, ap, ◌∙◌}
-use borrow.Author.Rules.{rules}
 use Rattle.state.specs.declared.Set.{Set}
 use Rattle.timers.specs.Calls.{restart_at, gives, nothing}
 use Rattle.timers.proofs.Alive.{at_door, as_restarted, live_place, restart_refused}

@@ -1,8 +1,6 @@
 -- A live timer that has fired answers its deadline and is reset to what the interval's rule says, or refused as that is.
 -- Assumes nothing.
 use mathlib.Core.Path.{sym, ap, ◌∙◌}
-use borrow.Author.Rules.{rules}
-use borrow.Author.Tests.{not-true, not-false}
 use Rattle.state.specs.declared.Set.{Set}
 use Rattle.timers.specs.Calls.{tick_at, gives, time}
 use Rattle.timers.proofs.Alive.{at_door, as_timed, live_place, tick_refused}

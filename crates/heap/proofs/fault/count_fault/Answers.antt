@@ -1,7 +1,6 @@
 -- `fault::count_fault` is right: the three tests of the rule are made in its order.
 -- Assumes nothing.
 use mathlib.Core.Path.{sym, ◌∙◌}
-use borrow.Author.Rules.{rules}
 use borrow.Author.Tests.{le-leb, lt-leb, eq-eqb, ne_eqb}
 use Rattle.heap.specs.Faults.{count_ok, count_fault}
 use Rattle.heap.proofs.fault.count_fault.Goals as goal

@@ -2,7 +2,6 @@
 -- the other scans in range.
 -- Assumes nothing.
 use mathlib.Core.Path.{ap, ◌∙◌}
-use borrow.Author.Rules.{rules}
 use Rattle.refusals.specs.Faults.{said_verdict}
 use Rattle.refusals.proofs.Faults.{stops, goes_on}
 use Rattle.heap.specs.Faults.{fault_of}

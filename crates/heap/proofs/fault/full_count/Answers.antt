@@ -1,7 +1,6 @@
 -- `fault::full_count` is right: after s slots the number is the count of the full ones below s.
 -- Assumes nothing.
-use mathlib.Core.Path.{◌≡◌, refl, ◌∙◌, ap}
-use Prim.Native.Nat.{◌≤◌, ◌-◌}
+use mathlib.Core.Path.{refl}
 use native.Mathlib.Omega.{arith}
 use borrow.Author.Rules.{rules}
 use Rattle.theory.specs.Counting.{count}
@@ -21,6 +20,6 @@ loop-s-preserved c =
     let l = c.loop-s in
     let h = c.args.h in
     elim c.match-st.branch [
-        in-Full w ↦ (omega arith, omega arith, omega (arith, w.n-is, count_yes (full_at h) l.s (full_at_lem h l.s _ w.in-Full.is)))
+      | in-Full w ↦ (omega arith, omega arith, omega (arith, w.n-is, count_yes (full_at h) l.s (full_at_lem h l.s _ w.in-Full.is)))
       | in_default w ↦ (omega arith, omega arith, omega (arith, w.n-is, count_no (full_at h) l.s (full-no h l.s w.in_default.is)))
     ]

@@ -1,7 +1,6 @@
 -- `fault::order_fault` is right: at each turn the scan of the positions to go finds what the whole scan finds.
 -- Assumes nothing.
-use mathlib.Core.Path.{◌≡◌, refl, sym, ◌∙◌}
-use Prim.Native.Nat.{◌≤◌, ◌-◌}
+use mathlib.Core.Path.{refl, sym, ◌∙◌}
 use native.Mathlib.Omega.{arith}
 use borrow.Author.Rules.{rules}
 use Rattle.refusals.specs.declared.fault.Fault.TheVariants.{Order}

@@ -1,13 +1,10 @@
 -- `fault::position_fault` is right: at each turn the scan of the positions to go finds what the whole scan finds.
 -- Assumes nothing.
-use mathlib.Core.Path.{◌≡◌, sym, ◌∙◌}
+use mathlib.Core.Path.{◌≡◌}
 use Prim.Native.Nat.{◌≤◌, ◌-◌}
-use native.Mathlib.Nat.{sub-zero}
-use native.Mathlib.Omega.{arith}
-use borrow.Author.Rules.{rules}
 use Rattle.refusals.specs.declared.fault.Fault.TheVariants.{Position}
 use Rattle.heap.specs.Faults.{position_ok, position_fault}
-use Rattle.heap.proofs.Testing.FaultLaws.{scan, scan-goes, scan-here, scan-done, position_past, position-empty, position-other, position-yes}
+use Rattle.heap.proofs.Testing.FaultLaws.{scan}
 use Rattle.heap.proofs.fault.position_fault.Given as goal
 
 abbrev pub invariant-loop-i : goal.invariant-loop-i

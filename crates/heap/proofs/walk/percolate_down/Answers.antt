@@ -12,9 +12,7 @@ use Rattle.theory.proofs.Stores.{unmapped}
 use Rattle.heap.specs.Capacity.{cap}
 use Rattle.heap.specs.declared.Entry.{Entry}
 use Rattle.heap.specs.declared.Heap.{Heap}
-use Rattle.heap.specs.declared.Pos.{Pos}
 use Rattle.heap.specs.Rules.{entry_at, slot_at, before, put_at, swap_at, child_of, down_from}
-use Rattle.heap.specs.Sound.{SlotsIn}
 use Rattle.heap.proofs.Walking.Laws.{down_stop, down_step}
 use Rattle.heap.proofs.Walking.Hole.{hole_step, carried_in, other_in, step_in, Lesser, only, left, right, in_heap, hole_leaf, hole_child}
 use Rattle.heap.proofs.walk.percolate_down.Invariants.{Down}
@@ -45,7 +43,7 @@ lesser : (c : goal.After-struct_known-in-loop-at-3-1) → Lesser c.loop-at.g c.l
 lesser c =
     let v = c.loop-at.invariant in
     elim c.if-l-len.branch [
-        then-l-len+then-before w ↦ by_right v w.if-l-len.true (sym w.before-then-l-len.ensures ∙ w.if-before.true) w.k-is
+      | then-l-len+then-before w ↦ by_right v w.if-l-len.true (sym w.before-then-l-len.ensures ∙ w.if-before.true) w.k-is
       | then-l-len+else-before w ↦ by_left v w.if-l-len.true (sym w.before-then-l-len.ensures ∙ w.if-before.false) w.k-is
       | else-l-len w ↦ alone v w.if-l-len.false w.k-is
     ]
@@ -117,17 +115,16 @@ ends c =
     let l = c.loop-at in
     let v = l.invariant in
     elim c.if-len-l.branch [
-        then-len-l w ↦ (w.last-is, hole_leaf l.g l.at.0 _ (omega (arith, w.if-len-l.true, v.as_long)))
+      | then-len-l w ↦ (w.last-is, hole_leaf l.g l.at.0 _ (omega (arith, w.if-len-l.true, v.as_long)))
       | else-len-l+then-not-before w ↦
-        let b = sym w.before-in-loop-at.ensures ∙ w.if-not-before.true in
-        (
-          w.last-is,
-          elim w.if-l-len.branch [
-              then-l-len+then-before w' ↦ goes v (by_right v w'.if-l-len.true (sym w'.before-then-l-len.ensures ∙ w'.if-before.true) w'.k-is) w.if-len-l.false b
-            | then-l-len+else-before w' ↦ goes v (by_left v w'.if-l-len.true (sym w'.before-then-l-len.ensures ∙ w'.if-before.false) w'.k-is) w.if-len-l.false b
-            | else-l-len w' ↦ goes v (alone v w'.if-l-len.false w'.k-is) w.if-len-l.false b
-          ]
-        )
+          let b = sym w.before-in-loop-at.ensures ∙ w.if-not-before.true in (
+            w.last-is,
+            elim w.if-l-len.branch [
+              | then-l-len+then-before w' ↦ goes v (by_right v w'.if-l-len.true (sym w'.before-then-l-len.ensures ∙ w'.if-before.true) w'.k-is) w.if-len-l.false b
+              | then-l-len+else-before w' ↦ goes v (by_left v w'.if-l-len.true (sym w'.before-then-l-len.ensures ∙ w'.if-before.false) w'.k-is) w.if-len-l.false b
+              | else-l-len w' ↦ goes v (alone v w'.if-l-len.false w'.k-is) w.if-len-l.false b
+            ],
+          )
     ]
 
 pub bounds-g-s : goal.bounds-g-s

@@ -3,7 +3,7 @@
 -- Assumes nothing.
 use mathlib.Core.Path.{◌≡◌, refl, sym, ◌∙◌, ap}
 use mathlib.Core.Bool.{false}
-use Prim.Native.Nat.{ℕ, ◌+◌, ◌-◌, ◌<◌, ◌≤◌}
+use Prim.Native.Nat.{ℕ, ◌+◌, ◌-◌, ◌<◌}
 use native.Mathlib.Nat.{sub-zero}
 use native.Mathlib.Omega.{arith}
 use lib.ListN.{length, length-set}
@@ -14,7 +14,6 @@ use Rattle.heap.specs.Capacity.{cap}
 use Rattle.heap.specs.declared.Entry.{Entry}
 use Rattle.heap.specs.declared.Heap.{Heap}
 use Rattle.heap.specs.Rules.{slot_at, put_at, rises_at, up_from}
-use Rattle.heap.specs.Sound.{SlotsIn}
 use Rattle.heap.proofs.Walking.Laws.{top_stays, up_stop, up_step}
 use Rattle.heap.proofs.Walking.Hole.{hole_step, carried_in, other_in, step_in, hole_rises}
 use Rattle.heap.proofs.walk.percolate_up.Invariants.{Up}
@@ -75,7 +74,7 @@ stays : (c : goal.After-struct_known-3-1) → rises_at (put_at c.loop-at.g c.loo
 stays c =
     let l = c.loop-at in
     elim c.loop-at-test.branch [
-        else-loop-at-test w ↦ top_stays _ l.at.0 (omega (arith, w.loop-at-test.false))
+      | else-loop-at-test w ↦ top_stays _ l.at.0 (omega (arith, w.loop-at-test.false))
       | then-loop-at-test+then-not-before w ↦ hole_rises l.g l.at.0 _ (within l.invariant).1 w.loop-at-test.true ∙ sym w.before-in-loop-at.ensures ∙ w.if-not-before.true
     ]
 

@@ -1,24 +1,14 @@
 -- The rest of the way up, from the heap whose hole is filled with the carried entry, is always the whole way; at its end nothing is
 -- left of it.
 -- Assumes nothing.
-use mathlib.Core.Path.{◌≡◌, refl, sym, ◌∙◌, ap}
-use mathlib.Core.Logic.{⊎_elim}
-use mathlib.Core.Bool.{false}
+use mathlib.Core.Path.{◌≡◌}
 use Prim.Native.Nat.{ℕ, ◌+◌, ◌-◌, ◌<◌, ◌≤◌}
-use native.Mathlib.Nat.{sub-zero}
-use native.Mathlib.Omega.{arith}
-use lib.ListN.{length, length-set}
-use borrow.Author.Tests.{not-true, not-false}
-use borrow.Author.Rules.{rules}
-use Rattle.theory.specs.Order.{parent}
-use Rattle.theory.proofs.Stores.{unmapped}
+use lib.ListN.{length}
 use Rattle.heap.specs.Capacity.{cap}
 use Rattle.heap.specs.declared.Entry.{Entry}
 use Rattle.heap.specs.declared.Heap.{Heap}
-use Rattle.heap.specs.Rules.{slot_at, put_at, rises_at, up_from}
+use Rattle.heap.specs.Rules.{put_at, up_from}
 use Rattle.heap.specs.Sound.{SlotsIn}
-use Rattle.heap.proofs.Walking.Laws.{top_stays, up_stop, up_step}
-use Rattle.heap.proofs.Walking.Hole.{hole_step, carried_in, other_in, step_in, hole_rises}
 use Rattle.heap.proofs.walk.percolate_up.Given as goal
 
 -- the rest of the way up, and what keeps it in range

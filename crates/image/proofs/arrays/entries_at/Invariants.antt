@@ -1,13 +1,10 @@
 -- Each turn looks at one record more.
 -- Assumes nothing.
-use mathlib.Core.Path.{refl}
 use Prim.Native.Nat.{◌+◌, ◌*◌, ◌-◌}
-use native.Mathlib.Omega.{arith}
-use borrow.Author.Rules.{rules}
 use lib.Dec.{ltb}
 use Rattle.heap.specs.Capacity.{cap}
-use Rattle.digits.proofs.Loops.{Finding, finding-none, finding-more, finding-all}
-use Rattle.image.specs.Image.{entry_or, entry_clear_if, entry_in_if, entries_of, entries_clear, entries_in}
+use Rattle.digits.proofs.Loops.{Finding}
+use Rattle.image.specs.Image.{entry_or, entry_clear_if, entry_in_if}
 use Rattle.image.proofs.arrays.entries_at.Given as goal
 
 abbrev pub invariant-loop-i : goal.invariant-loop-i

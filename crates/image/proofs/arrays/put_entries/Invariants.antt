@@ -1,14 +1,11 @@
 -- Each turn puts one record behind those before it.
 -- Assumes nothing.
 use Prim.Native.Nat.{◌-◌}
-use native.Mathlib.Omega.{arith}
-use borrow.Author.Rules.{rules}
 use Rattle.heap.specs.Capacity.{cap}
 use Rattle.digits.specs.Rows.{used}
-use Rattle.digits.proofs.Loops.{Putting, putting-none, putting-more, putting-all}
+use Rattle.digits.proofs.Loops.{Putting}
 use Rattle.heap.specs.Rules.{no_entry}
 use Rattle.cells.specs.Cells.{entry_bytes}
-use Rattle.image.specs.Image.{entries_bytes}
 use Rattle.image.proofs.arrays.put_entries.Given as goal
 
 abbrev pub invariant-loop-i : goal.invariant-loop-i

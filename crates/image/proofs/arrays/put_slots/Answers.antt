@@ -2,7 +2,6 @@
 -- Assumes nothing.
 use mathlib.Core.Path.{◌≡◌, ap, ◌∙◌}
 use mathlib.Core.Bool.{cond}
-use Prim.Native.Nat.{◌-◌}
 use native.Mathlib.Omega.{arith}
 use borrow.Author.Rules.{rules}
 use lib.Dec.{ltb}
@@ -12,7 +11,7 @@ use Rattle.heap.specs.declared.SlabSlot.{SlabSlot}
 use Rattle.digits.specs.Rows.{used}
 use Rattle.theory.proofs.Stores.{unmapped}
 use Rattle.digits.proofs.Rows.{get_d_any}
-use Rattle.digits.proofs.Loops.{Putting, putting-none, putting-more, putting-all}
+use Rattle.digits.proofs.Loops.{putting-none, putting-more, putting-all}
 use Rattle.cells.specs.Cells.{slot_bytes}
 use Rattle.image.specs.Image.{slots_bytes, zero_slot}
 use Rattle.image.proofs.arrays.put_slots.Goals as goal

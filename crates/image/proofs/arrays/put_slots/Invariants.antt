@@ -1,20 +1,13 @@
 -- Each turn puts one record behind those before it.
 -- Assumes nothing.
-use mathlib.Core.Path.{◌≡◌, ap, ◌∙◌}
-use mathlib.Core.Bool.{cond}
+use mathlib.Core.Path.{◌≡◌}
 use Prim.Native.Nat.{◌-◌}
-use native.Mathlib.Omega.{arith}
-use borrow.Author.Rules.{rules}
-use lib.Dec.{ltb}
 use lib.ListN.{length}
 use Rattle.heap.specs.Capacity.{cap}
-use Rattle.heap.specs.declared.SlabSlot.{SlabSlot}
 use Rattle.digits.specs.Rows.{used}
-use Rattle.theory.proofs.Stores.{unmapped}
-use Rattle.digits.proofs.Rows.{get_d_any}
-use Rattle.digits.proofs.Loops.{Putting, putting-none, putting-more, putting-all}
+use Rattle.digits.proofs.Loops.{Putting}
 use Rattle.cells.specs.Cells.{slot_bytes}
-use Rattle.image.specs.Image.{slots_bytes, zero_slot}
+use Rattle.image.specs.Image.{zero_slot}
 use Rattle.image.proofs.arrays.put_slots.Given as goal
 
 abbrev pub invariant-loop-i : goal.invariant-loop-i

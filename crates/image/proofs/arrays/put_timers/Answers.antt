@@ -1,11 +1,9 @@
 -- Each turn puts one record behind those before it.
 -- Assumes nothing.
 use mathlib.Core.Path.{refl}
-use Prim.Native.Nat.{◌-◌}
-use native.Mathlib.Omega.{arith}
 use lib.ListN.{get_or}
 use Rattle.heap.specs.Capacity.{cap}
-use Rattle.digits.proofs.Loops.{Putting, putting-none, putting-more, putting-all}
+use Rattle.digits.proofs.Loops.{putting-none, putting-more, putting-all}
 use Rattle.state.specs.State.{no_timer}
 use Rattle.cells.specs.Cells.{timer_bytes}
 use Rattle.image.specs.Image.{timers_bytes}

@@ -1,14 +1,11 @@
 -- Each turn puts one record behind those before it.
 -- Assumes nothing.
-use mathlib.Core.Path.{refl}
 use Prim.Native.Nat.{◌-◌}
-use native.Mathlib.Omega.{arith}
 use lib.ListN.{get_or}
 use Rattle.heap.specs.Capacity.{cap}
-use Rattle.digits.proofs.Loops.{Putting, putting-none, putting-more, putting-all}
+use Rattle.digits.proofs.Loops.{Putting}
 use Rattle.state.specs.State.{no_timer}
 use Rattle.cells.specs.Cells.{timer_bytes}
-use Rattle.image.specs.Image.{timers_bytes}
 use Rattle.image.proofs.arrays.put_timers.Given as goal
 
 abbrev pub invariant-loop-i : goal.invariant-loop-i

@@ -1,12 +1,10 @@
 -- Each turn looks at one record more.
 -- Assumes nothing.
 use mathlib.Core.Path.{refl}
-use Prim.Native.Nat.{◌+◌, ◌*◌, ◌-◌}
-use native.Mathlib.Omega.{arith}
-use borrow.Author.Rules.{rules}
+use Prim.Native.Nat.{◌+◌, ◌*◌}
 use lib.Dec.{ltb}
 use Rattle.heap.specs.Capacity.{cap}
-use Rattle.digits.proofs.Loops.{Finding, finding-none, finding-more, finding-all}
+use Rattle.digits.proofs.Loops.{finding-none, finding-more, finding-all}
 use Rattle.image.specs.Image.{slot_or, slot_clear_if, slot_in_if, slots_of, slots_clear, slots_in}
 use Rattle.image.proofs.arrays.slots_at.Goals as goal
 

@@ -1,10 +1,9 @@
 -- Each turn looks at one record more.
 -- Assumes nothing.
 use mathlib.Core.Path.{refl}
-use Prim.Native.Nat.{◌+◌, ◌*◌, ◌-◌}
-use native.Mathlib.Omega.{arith}
+use Prim.Native.Nat.{◌+◌, ◌*◌}
 use Rattle.heap.specs.Capacity.{cap}
-use Rattle.digits.proofs.Loops.{Finding, finding-none, finding-more, finding-all}
+use Rattle.digits.proofs.Loops.{finding-none, finding-more, finding-all}
 use Rattle.cells.specs.Cells.{timer_of}
 use Rattle.cells.specs.Fine.{timer_clear, timer_in}
 use Rattle.image.specs.Image.{timers_of, timers_clear, timers_in}

@@ -1,13 +1,10 @@
 -- Each turn looks at one record more.
 -- Assumes nothing.
-use mathlib.Core.Path.{refl}
 use Prim.Native.Nat.{◌+◌, ◌*◌, ◌-◌}
-use native.Mathlib.Omega.{arith}
 use Rattle.heap.specs.Capacity.{cap}
-use Rattle.digits.proofs.Loops.{Finding, finding-none, finding-more, finding-all}
+use Rattle.digits.proofs.Loops.{Finding}
 use Rattle.cells.specs.Cells.{timer_of}
 use Rattle.cells.specs.Fine.{timer_clear, timer_in}
-use Rattle.image.specs.Image.{timers_of, timers_clear, timers_in}
 use Rattle.image.proofs.arrays.timers_at.Given as goal
 
 abbrev pub invariant-loop-i : goal.invariant-loop-i

@@ -1,12 +1,8 @@
 -- At each turn the lowest free place of those to go is the lowest of all.
 -- Assumes nothing.
-use mathlib.Core.Path.{◌≡◌, refl, sym, ap, ◌∙◌}
-use mathlib.Core.Bool.{true, false, not}
-use Prim.Native.Nat.{◌+◌, ◌-◌}
-use native.Mathlib.Omega.{arith}
-use borrow.Author.Rules.{rules}
+use mathlib.Core.Path.{◌≡◌}
+use Prim.Native.Nat.{◌-◌}
 use Rattle.theory.specs.First.{first_bad}
-use Rattle.theory.proofs.First.{first_goes, first-here, first_done}
 use Rattle.heap.specs.Capacity.{cap}
 use Rattle.moves.specs.Rules.{taken, lowest_free}
 use Rattle.moves.proofs.list.lowest_free.Given as goal

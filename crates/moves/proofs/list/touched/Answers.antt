@@ -1,7 +1,6 @@
 -- By whether the timer waits already, its link and the head of the list are those of `touched_of`.
 -- Assumes nothing.
 use mathlib.Core.Path.{sym, ◌∙◌}
-use borrow.Author.Rules.{rules}
 use Rattle.moves.specs.Rules.{touched_of}
 use Rattle.moves.proofs.list.touched.Goals as goal
 

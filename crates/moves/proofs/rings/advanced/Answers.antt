@@ -4,18 +4,15 @@
 use mathlib.Core.Path.{◌≡◌, refl, sym, ap, subst, ◌∙◌}
 use mathlib.Core.Bool.{true}
 use mathlib.Core.List.{List}
-use Prim.Native.Nat.{ℕ, ◌+◌, ◌-◌, ◌<◌, ◌≤◌}
+use Prim.Native.Nat.{ℕ, ◌+◌, ◌-◌, ◌<◌}
 use native.Mathlib.Omega.{arith}
-use lib.ListN.{length}
 use borrow.Author.Rules.{rules}
 use Rattle.theory.proofs.Stores.{unmapped}
 use Rattle.refusals.specs.Answer.{Outcome}
-use Rattle.heap.specs.Capacity.{cap}
 use Rattle.heap.specs.declared.Heap.{Heap}
-use Rattle.heap.specs.Sound.{Sound}
-use Rattle.heap.specs.Calls.{Off, pop_sound}
+use Rattle.heap.specs.Calls.{Off}
 use Rattle.state.specs.declared.Set.{Set}
-use Rattle.moves.specs.Rules.{Ring, due_by, rung_of, ring_from, advanced_of}
+use Rattle.moves.specs.Rules.{Ring, due_by, rung_of, advanced_of}
 use Rattle.moves.proofs.RingLaws.{ring-goes, ring-ends, ring-done, rung-told, rung-quiet, rung-out, rung-heap, rung-timers, rung-list, rung_reported, rung-popped}
 use Rattle.moves.proofs.rings.advanced.Invariants.{Going}
 use Rattle.moves.proofs.rings.advanced.Goals as goal
@@ -55,15 +52,15 @@ turned c =
     let r = old c in
     let h = ap (λ (o : Outcome Heap Off). o.state) c.pop_sound-o.ensures in
     elim c.if-p-lt-CAP.branch [
-        then-p-lt-CAP w ↦
-        elim w.if-rings.branch [
-            then-rings x ↦
-            rw (w.list-is, w.ts-is, w.reported-is, w.rung.ensures, x.list-is, x.reported-is, x.handle_word.ensures, h)
-            (sym (rung-told r (sym w.rings.ensures ∙ x.if-rings.true)))
-          | else-rings x ↦ rw (w.list-is, w.ts-is, w.reported-is, w.rung.ensures, x.list-is, x.reported-is, h) (sym (rung-quiet r (sym w.rings.ensures ∙ x.if-rings.false)))
-        ]
+      | then-p-lt-CAP w ↦
+          elim w.if-rings.branch [
+            | then-rings x ↦
+                rw (w.list-is, w.ts-is, w.reported-is, w.rung.ensures, x.list-is, x.reported-is, x.handle_word.ensures, h)
+                (sym (rung-told r (sym w.rings.ensures ∙ x.if-rings.true)))
+            | else-rings x ↦ rw (w.list-is, w.ts-is, w.reported-is, w.rung.ensures, x.list-is, x.reported-is, h) (sym (rung-quiet r (sym w.rings.ensures ∙ x.if-rings.false)))
+          ]
       | else-p-lt-CAP w ↦
-        rw (w.list-is, w.ts-is, w.reported-is, h) (sym (rung-out r (omega (arith, w.if-p-lt-CAP.false, c.loop-left.invariant.timers_long))))
+          rw (w.list-is, w.ts-is, w.reported-is, h) (sym (rung-out r (omega (arith, w.if-p-lt-CAP.false, c.loop-left.invariant.timers_long))))
     ]
 
 pub loop-left-init : goal.loop-left-init

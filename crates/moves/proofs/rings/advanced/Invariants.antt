@@ -1,24 +1,14 @@
 -- What is left of the advance is always the whole of it, and each turn is one pop of the rule. No more timers are reported than
 -- entries popped, so the reports fit in the list.
 -- Assumes nothing.
-use mathlib.Core.Path.{◌≡◌, refl, sym, ap, subst, ◌∙◌}
-use mathlib.Core.Logic.{⊎_elim}
-use mathlib.Core.Bool.{true}
+use mathlib.Core.Path.{◌≡◌}
 use mathlib.Core.List.{List}
-use Prim.Native.Nat.{ℕ, ◌+◌, ◌-◌, ◌<◌, ◌≤◌}
-use native.Mathlib.Omega.{arith}
+use Prim.Native.Nat.{ℕ, ◌+◌, ◌≤◌}
 use lib.ListN.{length}
-use borrow.Author.Rules.{rules}
-use borrow.Author.Tests.{not-true, not-false}
-use Rattle.theory.proofs.Stores.{unmapped}
-use Rattle.refusals.specs.Answer.{Outcome}
 use Rattle.heap.specs.Capacity.{cap}
-use Rattle.heap.specs.declared.Heap.{Heap}
 use Rattle.heap.specs.Sound.{Sound}
-use Rattle.heap.specs.Calls.{Off, pop_sound}
 use Rattle.state.specs.declared.Set.{Set}
-use Rattle.moves.specs.Rules.{Ring, due_by, rung_of, ring_from, advanced_of}
-use Rattle.moves.proofs.RingLaws.{ring-goes, ring-ends, ring-done, rung-told, rung-quiet, rung-out, rung-heap, rung-timers, rung-list, rung_reported, rung-popped}
+use Rattle.moves.specs.Rules.{Ring, ring_from, advanced_of}
 use Rattle.moves.proofs.rings.advanced.Given as goal
 
 -- the advance of s to N with the list l has come to r, with `left` turns to go

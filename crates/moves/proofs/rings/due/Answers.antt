@@ -3,7 +3,6 @@
 use native.Mathlib.Omega.{arith}
 use borrow.Author.Tests.{lt-ltb, le-ltb}
 use Rattle.moves.specs.Rules.{due_by}
-use borrow.Author.Rules.{rules}
 use Rattle.moves.proofs.rings.due.Goals as goal
 
 pub returns-then-h-eq0 : goal.returns-then-h-eq0

@@ -6,7 +6,6 @@ use Rattle.heap.specs.Sound.{Sound}
 use Rattle.state.specs.declared.Set.{Set}
 use Rattle.moves.specs.Rules.{closed_of}
 use Rattle.moves.proofs.CloseLaws.{unlist_heap}
-use borrow.Author.Rules.{rules}
 use Rattle.moves.proofs.shut.closed.Goals as goal
 
 pub emptied-g-requires : goal.emptied-g-requires

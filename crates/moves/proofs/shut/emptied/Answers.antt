@@ -1,19 +1,13 @@
 -- What is left of the emptying is always the whole of it, and each turn is one pop of the rule.
 -- Assumes nothing.
-use mathlib.Core.Path.{◌≡◌, refl, sym, ap, subst, ◌∙◌}
-use mathlib.Core.Logic.{⊎_elim}
+use mathlib.Core.Path.{◌≡◌, sym, ap, subst, ◌∙◌}
 use Prim.Native.Nat.{ℕ, ◌-◌, ◌<◌}
 use native.Mathlib.Omega.{arith}
-use lib.ListN.{length}
-use borrow.Author.Rules.{rules}
-use Rattle.theory.proofs.Stores.{unmapped}
 use Rattle.refusals.specs.Answer.{Outcome}
-use Rattle.heap.specs.Capacity.{cap}
 use Rattle.heap.specs.declared.Heap.{Heap}
-use Rattle.heap.specs.Sound.{Sound}
 use Rattle.heap.specs.Calls.{Off}
 use Rattle.state.specs.declared.Set.{Set}
-use Rattle.moves.specs.Rules.{popped_of, empty_from}
+use Rattle.moves.specs.Rules.{popped_of}
 use Rattle.moves.proofs.CloseLaws.{empty_goes, empty_done, popped_out, popped_heap, popped_timers}
 use Rattle.moves.proofs.shut.emptied.Invariants.{Emptying}
 use Rattle.moves.proofs.shut.emptied.Goals as goal
@@ -35,7 +29,7 @@ unfolding popped_of
 turned c =
     let h = ap (λ (o : Outcome Heap Off). o.state) c.pop_sound-o.ensures in
     elim c.if-p-lt-CAP.branch [
-        then-p-lt-CAP w ↦ rw (w.ts-is, w.marked.ensures, h)
+      | then-p-lt-CAP w ↦ rw (w.ts-is, w.marked.ensures, h)
       | else-p-lt-CAP w ↦ rw (w.ts-is, h) (sym (popped_out _ (omega (arith, w.if-p-lt-CAP.false, c.loop-left.invariant.timers_long))))
     ]
 

@@ -1,20 +1,12 @@
 -- What is left of the emptying is always the whole of it, and each turn is one pop of the rule.
 -- Assumes nothing.
-use mathlib.Core.Path.{◌≡◌, refl, sym, ap, subst, ◌∙◌}
-use mathlib.Core.Logic.{⊎_elim}
-use Prim.Native.Nat.{ℕ, ◌-◌, ◌<◌}
-use native.Mathlib.Omega.{arith}
+use mathlib.Core.Path.{◌≡◌}
+use Prim.Native.Nat.{ℕ}
 use lib.ListN.{length}
-use borrow.Author.Rules.{rules}
-use Rattle.theory.proofs.Stores.{unmapped}
-use Rattle.refusals.specs.Answer.{Outcome}
 use Rattle.heap.specs.Capacity.{cap}
-use Rattle.heap.specs.declared.Heap.{Heap}
 use Rattle.heap.specs.Sound.{Sound}
-use Rattle.heap.specs.Calls.{Off}
 use Rattle.state.specs.declared.Set.{Set}
-use Rattle.moves.specs.Rules.{popped_of, empty_from}
-use Rattle.moves.proofs.CloseLaws.{empty_goes, empty_done, popped_out, popped_heap, popped_timers}
+use Rattle.moves.specs.Rules.{empty_from}
 use Rattle.moves.proofs.shut.emptied.Given as goal
 
 -- emptying the heap of s has come to g, with `left` entries to pop

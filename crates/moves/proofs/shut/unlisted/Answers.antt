@@ -1,19 +1,16 @@
 -- What is left of the list is always the whole of it, and each turn takes one timer off by the rule. A place out of range ends it.
 -- Assumes nothing.
-use mathlib.Core.Path.{◌≡◌, refl, sym, subst, ◌∙◌}
+use mathlib.Core.Path.{◌≡◌, sym, subst, ◌∙◌}
 use Prim.Native.Nat.{ℕ, ◌-◌, ◌<◌}
 use native.Mathlib.Omega.{arith}
-use lib.ListN.{length, set, get_or, length-set}
-use borrow.Author.Rules.{rules}
-use Rattle.theory.proofs.Stores.{unmapped}
-use Rattle.heap.specs.Capacity.{cap}
+use lib.ListN.{set, get_or, length-set}
 use Rattle.heap.specs.declared.Place.{Place}
 use Rattle.state.specs.declared.Waiting.TheVariants.{No}
 use Rattle.state.specs.declared.Held.TheVariants.{Nothing}
 use Rattle.state.specs.declared.First.TheVariants.{At}
 use Rattle.state.specs.declared.Set.{Set}
 use Rattle.state.specs.State.{no_timer}
-use Rattle.moves.specs.Rules.{unlisted_of, unlist_from}
+use Rattle.moves.specs.Rules.{unlisted_of}
 use Rattle.moves.proofs.CloseLaws.{unlist_goes, unlist_ends, unlist_done, unlist_out}
 use Rattle.moves.proofs.shut.unlisted.Invariants.{Unlisting}
 use Rattle.moves.proofs.shut.unlisted.Goals as goal

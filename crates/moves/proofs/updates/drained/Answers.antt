@@ -2,15 +2,10 @@
 -- one fewer of those that a list can take.
 -- Assumes nothing.
 use mathlib.Core.Path.{◌≡◌, refl, sym, ap, ◌∙◌}
-use Prim.Native.Nat.{ℕ, suc, ◌-◌}
+use Prim.Native.Nat.{suc, ◌-◌}
 use native.Mathlib.Omega.{arith}
-use borrow.Author.Rules.{rules}
-use Rattle.heap.specs.Capacity.{cap}
-use Rattle.heap.specs.Sound.{Sound}
-use Rattle.state.specs.declared.Set.{Set}
 use Rattle.moves.specs.Rules.{drain_from}
 use Rattle.moves.proofs.DrainLaws.{settled-heap, drain_goes, drain_ends}
-use Rattle.moves.proofs.updates.drained.Invariants.{Draining}
 use Rattle.moves.proofs.updates.drained.Goals as goal
 
 pub loop-left-init : goal.loop-left-init

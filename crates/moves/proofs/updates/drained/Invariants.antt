@@ -1,15 +1,12 @@
 -- At each turn the updates to go make of the set what all of them make of the first one. The heap stays sound, and each turn is
 -- one fewer of those that a list can take.
 -- Assumes nothing.
-use mathlib.Core.Path.{◌≡◌, refl, sym, ap, ◌∙◌}
-use Prim.Native.Nat.{ℕ, suc, ◌-◌}
-use native.Mathlib.Omega.{arith}
-use borrow.Author.Rules.{rules}
+use mathlib.Core.Path.{◌≡◌}
+use Prim.Native.Nat.{ℕ}
 use Rattle.heap.specs.Capacity.{cap}
 use Rattle.heap.specs.Sound.{Sound}
 use Rattle.state.specs.declared.Set.{Set}
 use Rattle.moves.specs.Rules.{drain_from}
-use Rattle.moves.proofs.DrainLaws.{settled-heap, drain_goes, drain_ends}
 use Rattle.moves.proofs.updates.drained.Given as goal
 
 -- the set g with so many turns to go, in a drain of s

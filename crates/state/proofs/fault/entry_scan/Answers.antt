@@ -1,12 +1,8 @@
 -- `fault::entry_scan` is right: after i entries the lowest place is that of the entries at fault below i.
 -- Assumes nothing.
-use mathlib.Core.Path.{◌≡◌, refl, sym, ap, ◌∙◌}
-use mathlib.Core.Logic.{⊎_elim}
+use mathlib.Core.Path.{refl, sym, ap, ◌∙◌}
 use mathlib.Core.Option.{some}
-use Prim.Native.Nat.{◌≤◌, ◌-◌}
 use native.Mathlib.Omega.{arith}
-use borrow.Author.Rules.{rules}
-use borrow.Author.Tests.{not-true, not-false}
 use Rattle.heap.specs.Rules.{entry_at}
 use Rattle.state.specs.Faults.{lower, entry_scan, scanned}
 use Rattle.state.proofs.ScanLaws.{entry_past, entry_in, entry-passes, entry-fails}
@@ -25,12 +21,12 @@ loop-i-preserved c =
     let p = (entry_at s.heap i).place.0 in (
       omega arith,
       elim c.if-p-ge-CAP.branch [
-          then-p-ge-CAP w ↦
-          ap scanned w.low-is ∙ w.lower-low.ensures ∙ ap (λ x. lower x (some p)) o ∙ sym (entry-fails s i (entry_past s i w.if-p-ge-CAP.true))
+        | then-p-ge-CAP w ↦
+            ap scanned w.low-is ∙ w.lower-low.ensures ∙ ap (λ x. lower x (some p)) o ∙ sym (entry-fails s i (entry_past s i w.if-p-ge-CAP.true))
         | else-p-ge-CAP+then-not-entry_ok w ↦
-          ap scanned w.low-is ∙ w.lower-low-then-not-entry_ok.ensures ∙ ap (λ x. lower x (some p)) o
-          ∙ sym (entry-fails s i (entry_in s i w.if-p-ge-CAP.false (sym w.entry_ok.ensures ∙ w.if-not-entry_ok.true)))
+            ap scanned w.low-is ∙ w.lower-low-then-not-entry_ok.ensures ∙ ap (λ x. lower x (some p)) o
+            ∙ sym (entry-fails s i (entry_in s i w.if-p-ge-CAP.false (sym w.entry_ok.ensures ∙ w.if-not-entry_ok.true)))
         | else-p-ge-CAP+else-not-entry_ok w ↦
-          ap scanned w.low-is ∙ o ∙ sym (entry-passes s i (entry_in s i w.if-p-ge-CAP.false (sym w.entry_ok.ensures ∙ w.if-not-entry_ok.false)))
+            ap scanned w.low-is ∙ o ∙ sym (entry-passes s i (entry_in s i w.if-p-ge-CAP.false (sym w.entry_ok.ensures ∙ w.if-not-entry_ok.false)))
       ],
     )

@@ -1,12 +1,12 @@
 -- `fault::first_fault` is right: each scan is made where those before it found no fault, and the heap, once found sound, keeps
 -- the scans of places and entries in range.
 -- Assumes nothing.
-use mathlib.Core.Path.{◌≡◌, sym, ap, ◌∙◌}
+use mathlib.Core.Path.{sym, ap, ◌∙◌}
 use borrow.Author.Rules.{rules}
 use Rattle.theory.proofs.Stores.{unmapped}
 use Rattle.refusals.specs.declared.fault.Fault.TheVariants.{Place}
 use Rattle.refusals.specs.Faults.{fault_by, said_verdict}
-use Rattle.state.specs.Faults.{scanned, fault_of}
+use Rattle.state.specs.Faults.{scanned}
 use Rattle.state.specs.declared.fault.Scan.{Scan}
 use Rattle.state.proofs.FaultLaws.{heap-first, heap_sound, list_next, place_last}
 use Rattle.state.proofs.fault.first_fault.Goals as goal

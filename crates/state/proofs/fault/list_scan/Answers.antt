@@ -3,11 +3,9 @@
 -- is out of range, does not wait or was met before.
 -- Assumes nothing.
 use mathlib.Core.Path.{sym, ◌∙◌}
-use Prim.Native.Nat.{◌-◌}
 use native.Mathlib.Omega.{arith}
-use borrow.Author.Rules.{rules}
 use borrow.Author.Tests.{not-true, not-false}
-use Rattle.state.proofs.ListLaws.{OnList, list-starts, list_short, list_past, list_again, list_still, list_goes, list_ends, list_long}
+use Rattle.state.proofs.ListLaws.{list-starts, list_short, list_past, list_again, list_still, list_goes, list_ends, list_long}
 use Rattle.state.proofs.fault.list_scan.Goals as goal
 
 pub loop-step-init : goal.loop-step-init

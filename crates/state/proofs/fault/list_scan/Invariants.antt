@@ -2,12 +2,8 @@
 -- goes wrong at no step behind it. There are as many to meet as wait, which its caller has counted; once all were met, whatever comes
 -- is out of range, does not wait or was met before.
 -- Assumes nothing.
-use mathlib.Core.Path.{sym, ◌∙◌}
 use Prim.Native.Nat.{◌-◌}
-use native.Mathlib.Omega.{arith}
-use borrow.Author.Rules.{rules}
-use borrow.Author.Tests.{not-true, not-false}
-use Rattle.state.proofs.ListLaws.{OnList, list-starts, list_short, list_past, list_again, list_still, list_goes, list_ends, list_long}
+use Rattle.state.proofs.ListLaws.{OnList}
 use Rattle.state.proofs.fault.list_scan.Given as goal
 
 abbrev pub invariant-loop-step : goal.invariant-loop-step

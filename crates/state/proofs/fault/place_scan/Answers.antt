@@ -1,18 +1,12 @@
 -- `fault::place_scan` is right: at each turn the scan of the places to go finds what the whole scan finds. A full slot of a sound
 -- heap names a position of it, so the entry is read in range.
 -- Assumes nothing.
-use mathlib.Core.Path.{◌≡◌, sym, ◌∙◌}
-use mathlib.Core.Logic.{⊎_elim}
-use mathlib.Core.Bool.{Bool}
-use Prim.Native.Nat.{◌≤◌, ◌-◌}
+use mathlib.Core.Path.{sym, ◌∙◌}
 use native.Mathlib.Nat.{sub-zero}
 use native.Mathlib.Omega.{arith}
 use borrow.Author.Rules.{rules}
-use borrow.Author.Tests.{not-true, not-false}
-use Rattle.heap.specs.Capacity.{cap}
 use Rattle.heap.proofs.Soundness.SoundFacts.{full_back}
-use Rattle.state.specs.State.{timer_at}
-use Rattle.state.specs.Faults.{held_ok, place_ok, first_place}
+use Rattle.state.specs.Faults.{first_place}
 use Rattle.state.proofs.ScanLaws.{held_none, held-past, held-empty, held-other, held-own, places_from, place-parts, place-held, places-go, places-here, places-done}
 use Rattle.state.proofs.fault.place_scan.Goals as goal
 use Rattle.state.proofs.fault.place_scan.Goals.{in-At+else-h-q+in-Full+else-e-place, in_default}
@@ -60,7 +54,7 @@ loop-p-preserved c =
       places-go s l.p (omega arith)
           (place-held s l.p (sym c.timer_ok.ensures ∙ c.if-not-timer_ok.false)
           (elim c.match-d.branch [
-              in-At+else-h-q+in-Full+else-e-place w ↦ held-own s.heap l.p w.in-At.is w.if-h-q.false w.in-Full.is w.if-e-place.false
+            | in-At+else-h-q+in-Full+else-e-place w ↦ held-own s.heap l.p w.in-At.is w.if-h-q.false w.in-Full.is w.if-e-place.false
             | in_default w ↦ held_none s.heap l.p w.in_default.is
           ]))
           ∙ l.invariant.1,

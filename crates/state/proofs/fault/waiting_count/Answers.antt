@@ -1,13 +1,9 @@
 -- `fault::waiting_count` is right: after p places the number is the count of the waiting timers below p.
 -- Assumes nothing.
-use mathlib.Core.Path.{◌≡◌, refl, sym, ◌∙◌, ap}
-use mathlib.Core.Logic.{⊎_elim}
-use Prim.Native.Nat.{◌≤◌, ◌-◌}
+use mathlib.Core.Path.{refl, sym, ◌∙◌}
 use native.Mathlib.Omega.{arith}
-use borrow.Author.Rules.{rules}
 use Rattle.theory.specs.Counting.{count}
 use Rattle.theory.proofs.Counting.{count_yes, count_no}
-use Rattle.heap.specs.Capacity.{cap}
 use Rattle.state.specs.Faults.{waits_at}
 use Rattle.state.proofs.ListLaws.{waits_in}
 use Rattle.state.proofs.fault.waiting_count.Goals as goal
@@ -22,6 +18,6 @@ loop-p-preserved c =
     let s = c.args.s in
     let p = c.loop-p.p in
     elim c.if-waits.branch [
-        then-waits w ↦ (omega arith, omega arith, omega (arith, w.n-is, count_yes (waits_at s) p (waits_in s c.loop-p-test.true (sym c.waits.ensures ∙ w.if-waits.true))))
+      | then-waits w ↦ (omega arith, omega arith, omega (arith, w.n-is, count_yes (waits_at s) p (waits_in s c.loop-p-test.true (sym c.waits.ensures ∙ w.if-waits.true))))
       | else-waits w ↦ (omega arith, omega arith, omega (arith, w.n-is, count_no (waits_at s) p (waits_in s c.loop-p-test.true (sym c.waits.ensures ∙ w.if-waits.false))))
     ]

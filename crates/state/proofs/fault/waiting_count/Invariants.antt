@@ -1,15 +1,10 @@
 -- `fault::waiting_count` is right: after p places the number is the count of the waiting timers below p.
 -- Assumes nothing.
-use mathlib.Core.Path.{◌≡◌, refl, sym, ◌∙◌, ap}
-use mathlib.Core.Logic.{⊎_elim}
+use mathlib.Core.Path.{◌≡◌}
 use Prim.Native.Nat.{◌≤◌, ◌-◌}
-use native.Mathlib.Omega.{arith}
-use borrow.Author.Rules.{rules}
 use Rattle.theory.specs.Counting.{count}
-use Rattle.theory.proofs.Counting.{count_yes, count_no}
 use Rattle.heap.specs.Capacity.{cap}
 use Rattle.state.specs.Faults.{waits_at}
-use Rattle.state.proofs.ListLaws.{waits_in}
 use Rattle.state.proofs.fault.waiting_count.Given as goal
 
 abbrev pub invariant-loop-p : goal.invariant-loop-p

@@ -2,9 +2,8 @@
 -- Assumes nothing.
 use mathlib.Core.Path.{◌≡◌, refl, sym, ap, ◌∙◌}
 use mathlib.Core.Option.{Option}
-use Prim.Native.Nat.{ℕ, suc, ◌+◌, ◌≤◌, ◌-◌}
+use Prim.Native.Nat.{ℕ, suc, ◌+◌}
 use native.Mathlib.Omega.{arith}
-use borrow.Author.Rules.{rules}
 use lib.Dec.{ltb}
 use Rattle.theory.specs.Least.{least_below}
 use Rattle.heap.specs.Capacity.{cap}

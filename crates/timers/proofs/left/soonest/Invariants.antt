@@ -1,14 +1,11 @@
 -- After p places the deadline at hand is the least of those of the pending timers below p.
 -- Assumes nothing.
-use mathlib.Core.Path.{◌≡◌, refl, sym, ap, ◌∙◌}
-use mathlib.Core.Option.{Option}
-use Prim.Native.Nat.{ℕ, suc, ◌+◌, ◌≤◌, ◌-◌}
-use native.Mathlib.Omega.{arith}
-use borrow.Author.Rules.{rules}
+use mathlib.Core.Path.{◌≡◌}
+use Prim.Native.Nat.{◌≤◌, ◌-◌}
 use lib.Dec.{ltb}
 use Rattle.theory.specs.Least.{least_below}
 use Rattle.heap.specs.Capacity.{cap}
-use Rattle.timers.specs.Left.{lesser_due, pending_at, soonest_of, said_earliest}
+use Rattle.timers.specs.Left.{pending_at, said_earliest}
 use Rattle.timers.proofs.left.soonest.Given as goal
 
 abbrev pub invariant-loop-p : goal.invariant-loop-p

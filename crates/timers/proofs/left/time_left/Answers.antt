@@ -1,7 +1,6 @@
 -- The time left is what the door says: its refusal, or the difference from the deadline of the live timer.
 -- Assumes nothing.
 use mathlib.Core.Path.{sym, ap, ◌∙◌}
-use borrow.Author.Rules.{rules}
 use Rattle.timers.specs.Calls.{said_door}
 use Rattle.timers.specs.Left.{time_left_by, time_left_of}
 use Rattle.timers.proofs.Shortest.{left_refused}
