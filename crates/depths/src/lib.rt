@@ -4,6 +4,7 @@
 // Before the call and after it a lent number is written to. Whoever measures lends numbers that it can see written to, and so tells
 // what the call used from what was used to make the set and to look at the answer.
 #![tactic(auto)]
+
 ghost use Rattle.std.specs.Prelude.{◌≡◌};
 ghost use Rattle.refusals.specs.Answer.{number_in};
 ghost use Rattle.refusals.specs.Times.{said_left};

@@ -1,9 +1,9 @@
 -- A call on an image by what `read` says of it: where it refuses, the call is refused so and leaves all that was lent; else it is
 -- the call on the set that was read, and the image that of the set after it.
 -- Assumes nothing.
-use mathlib.Core.Path.{◌≡◌, refl, sym, ap, subst, ◌∙◌}
+use mathlib.Core.Path.{◌≡◌, refl, sym, ap, ◌∙◌}
 use mathlib.Core.Option.{none}
-use mathlib.Core.List.{List, [], ◌∷◌}
+use mathlib.Core.List.{List}
 use Prim.Native.Nat.{ℕ}
 use Rattle.refusals.specs.declared.Refusal.{Refusal}
 use Rattle.refusals.specs.declared.Refusal.TheVariants.{Unsound, Closed, DeadHandle, Full, ShortList, TimeOverflow, CounterBehind, WrongMode, ZeroPeriod, NotFired, VacantSlot, BadRecord, BadImage}
@@ -11,11 +11,10 @@ use Rattle.refusals.specs.Answer.{Answer, accepted, refused, unsound, refuse, Ou
 use Rattle.refusals.proofs.Refusing.{any_refusal}
 use Rattle.state.specs.declared.Handle.{Handle}
 use Rattle.state.specs.declared.Set.{Set}
-use Rattle.timers.specs.declared.After.{After}
 use Rattle.timers.specs.declared.Reply.{Reply}
 use Rattle.timers.specs.declared.Reply.TheVariants as R
 use Rattle.timers.specs.Values.{Value, handle_in, reports_in}
-use Rattle.timers.specs.Calls.{said, told}
+use Rattle.timers.specs.Calls.{said}
 use Rattle.image.specs.declared.Reading.{Reading}
 use Rattle.image.specs.declared.Reply as Said
 use Rattle.image.specs.declared.Reply.TheVariants as I
@@ -23,8 +22,8 @@ use Rattle.image.specs.Image.{image_of}
 use Rattle.image.specs.Calls.{read_of, write_of, told_reading}
 use Rattle.image.specs.Calls as Image
 use Rattle.host.specs.Numbers.{status_of}
-use Rattle.host.specs.Calls.{on_reading, on_image, image_after, pictured}
-use Rattle.host.specs.Seen.{word_or, count_or, wake_in, any_or, time_or}
+use Rattle.host.specs.Calls.{on_reading, on_image, image_after}
+use Rattle.host.specs.Seen.{word_or, count_or, wake_in}
 use Rattle.host.specs.Promises.{Leaves, end_of}
 
 -- a refusal has one status, of whatever call it is

@@ -2,7 +2,7 @@
 -- And the status of a fault, worked out.
 -- Assumes nothing.
 use mathlib.Core.Path.{◌≡◌, refl, ap}
-use mathlib.Core.Bool.{true, false}
+use mathlib.Core.Bool.{false}
 use mathlib.Core.List.{List}
 use Prim.Native.Nat.{ℕ, ◌+◌, ◌*◌}
 use Rattle.theory.proofs.Tests.{true_false}

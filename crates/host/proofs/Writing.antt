@@ -24,7 +24,7 @@ use Rattle.laws.proofs.Widths.Calls.{widths-words}
 use Rattle.image.specs.declared.Reading.{Reading}
 use Rattle.image.specs.declared.Reply as Said
 use Rattle.image.specs.declared.Reply.TheVariants.{Done}
-use Rattle.image.specs.Image.{size, image_of, set_from}
+use Rattle.image.specs.Image.{size, image_of}
 use Rattle.image.specs.Calls.{read_of, written_by, write_of, said, told_reading}
 use Rattle.image.specs.Accepted.{Pictures}
 use Rattle.image.proofs.Lengths.{image_long}

@@ -3,6 +3,7 @@
 //
 // The answer is a status: 0 where the call is accepted, and else why it is refused. A refused call writes nothing.
 #![tactic(auto)]
+
 ghost use Rattle.std.specs.Prelude.{◌≡◌, ◌*◌, ◌≤◌, length};
 ghost use Rattle.host.specs.Numbers.{handle_from};
 ghost use Rattle.host.specs.Promises.{Tells, Ends, Makes, Puts, Least, Freshens, Adds, Resets, Cancels, Turns, Wakes};

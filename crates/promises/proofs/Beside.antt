@@ -23,7 +23,6 @@ use Rattle.timers.specs.declared.Call.TheVariants as C
 use Rattle.timers.specs.Values.{Value, nothing, handle, counts, wake, polled, time, handle_in, reports_in}
 use Rattle.promises.specs.Turns.{Engine, Seen, seen, Line, Ledger, cleared, rung, each, added, noted, note, owed, settled, Exact, Least, Must, exactly, counting, waking, Answers, added_at, taken_in, if_live, if_timed, while_open, once_closed, must, Run, next, from, run, Bounded, Accepted, Moment, all_asked, every, Meets}
 use Rattle.promises.specs.Beside.{plain, Together, Beside}
-use Rattle.promises.proofs.Engine.{meets}
 
 -- ANSWERS
 

@@ -23,7 +23,6 @@ use Rattle.state.specs.declared.Waiting.{Waiting}
 use Rattle.state.specs.declared.Waiting.TheVariants.{No, Last}
 use Rattle.state.specs.declared.Held.TheVariants as Held
 use Rattle.state.specs.declared.First.{First}
-use Rattle.state.specs.declared.First.TheVariants as First
 use Rattle.state.specs.declared.Set.{Set}
 use Rattle.state.specs.declared.Handle.{Handle}
 use Rattle.state.specs.State.{no_timer, fresh_of}

@@ -39,7 +39,7 @@ use Rattle.timers.proofs.Guarding.{sound_none}
 use Rattle.timers.proofs.Shortest.{least_open}
 use Rattle.laws.specs.EntryOf.{entry_of, waiting}
 use Rattle.laws.proofs.Handles.Pending.{pending_place, handle_of, place_pending, left-of, left-closed, least-closed}
-use Rattle.promises.specs.Turns.{Line, Ledger, Seen, seen, owed, Exact, Least, Run, run, Accepted, Bounded}
+use Rattle.promises.specs.Turns.{Line, Ledger, Seen, seen, owed, Exact, Least, run, Accepted, Bounded}
 use Rattle.promises.specs.Engine.{ours}
 use Rattle.promises.specs.Display.{over, shown_for, Shown}
 use Rattle.promises.proofs.Ledger.Tracks.{Living, Stands, Tracks}

@@ -2,7 +2,7 @@
 -- none where it finds none.
 -- Assumes nothing.
 use mathlib.Core.Path.{◌≡◌, refl, ◌∙◌}
-use mathlib.Core.Bool.{false, not}
+use mathlib.Core.Bool.{false}
 use mathlib.Core.Option.{Option, none, some}
 use mathlib.Core.List.{List}
 use Prim.Native.Nat.{ℕ}
@@ -10,8 +10,6 @@ use Rattle.theory.proofs.Tests.{true_false}
 use Rattle.refusals.specs.declared.fault.Fault.{Fault}
 use Rattle.refusals.specs.Answer.{Answer, accepted, refused, unsound, Outcome}
 use Rattle.heap.specs.declared.Heap.{Heap}
-use Rattle.heap.specs.declared.Slot.{Slot}
-use Rattle.heap.specs.declared.Place.{Place}
 use Rattle.heap.specs.Faults as Heap
 use Rattle.heap.specs.Calls as Heaps
 use Rattle.state.specs.declared.Set.{Set}

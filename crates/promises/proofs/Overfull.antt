@@ -22,7 +22,7 @@ use Rattle.timers.specs.declared.Call.{Call}
 use Rattle.timers.specs.declared.Call.TheVariants as C
 use Rattle.timers.specs.Values.{Value, handle_in}
 use Rattle.promises.specs.Bench.{◌with_use◌}
-use Rattle.promises.specs.Turns.{Engine, Ledger, Run, begun, added, note, taken_by, taken_in, added_at, Answers, while_open, once_closed, next, from, run, all_asked, Meets, every}
+use Rattle.promises.specs.Turns.{Engine, Ledger, begun, added, note, taken_by, taken_in, added_at, Answers, while_open, once_closed, next, from, run, all_asked, Meets, every}
 use Rattle.promises.specs.Untested.{untested}
 use Rattle.promises.proofs.Meeting.{from-append}
 use Rattle.promises.specs.Useless.{one_place_more, overfull}

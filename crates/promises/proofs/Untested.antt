@@ -2,7 +2,7 @@
 -- is right on the one exactly where it is on the other.
 -- Assumes nothing.
 use mathlib.Core.Path.{◌≡◌, refl, sym, ap, ◌∙◌}
-use mathlib.Core.Bool.{Bool, cond, ◌&&◌}
+use mathlib.Core.Bool.{cond, ◌&&◌}
 use mathlib.Core.List.{List, [], ◌∷◌}
 use Prim.Native.Nat.{ℕ}
 use lib.Dec.{eqb}
@@ -10,7 +10,6 @@ use lib.ListN.{replicate}
 use Rattle.theory.specs.Tests.{bit}
 use Rattle.refusals.specs.Answer.{Answer, Outcome, accepted}
 use Rattle.heap.specs.Capacity.{cap}
-use Rattle.state.specs.declared.Set.{Set}
 use Rattle.state.specs.State.{fresh_of}
 use Rattle.timers.specs.declared.Call.{Call}
 use Rattle.timers.specs.declared.Call.TheVariants as C

@@ -16,7 +16,7 @@ use Rattle.laws.specs.Words.{Fit}
 use Rattle.laws.specs.Unguarded.{unguarded}
 use Rattle.laws.proofs.Soundness.StepSound.{fresh_fit}
 use Rattle.laws.proofs.Soundness.Unguarded.{step_same}
-use Rattle.promises.specs.Turns.{every, Line, Run, blank, seen, owed, Exact, Answers, must, next, from, run, Bounded, Moment, Meets}
+use Rattle.promises.specs.Turns.{every, Line, Run, blank, seen, owed, Exact, Answers, must, next, from, Bounded, Moment, Meets}
 use Rattle.promises.specs.Engine.{ours, handed}
 use Rattle.promises.specs.Untested.{untested}
 use Rattle.promises.proofs.Untested.{as_untested, next_same, next_fit, from_same, from_fit}

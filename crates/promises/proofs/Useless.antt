@@ -8,7 +8,7 @@ use mathlib.Core.List.{List, [], ◌∷◌, filter_map}
 use Prim.Native.Nat.{ℕ, ◌<◌, ◌^◌}
 use native.Mathlib.Omega.{arith}
 use native.Mathlib.Decide.{ℕ_discrete}
-use lib.ListN.{length, replicate}
+use lib.ListN.{replicate}
 use borrow.Author.Tests.{eq-eqb}
 use Rattle.theory.specs.Tests.{bit}
 use Rattle.theory.specs.First.{first_bad}

@@ -20,8 +20,6 @@ use Rattle.word.specs.Rules.{invalid_in}
 use Rattle.state.specs.declared.Life.{Life}
 use Rattle.state.specs.declared.Life.TheVariants.{Free, Live, Cancelled, Retired}
 use Rattle.state.specs.declared.Held.{Held}
-use Rattle.state.specs.declared.Held.TheVariants as Held
-use Rattle.state.specs.declared.Timer.{Timer}
 use Rattle.state.specs.declared.Set.{Set}
 use Rattle.state.specs.State.{is_waiting, next_in, head_of}
 

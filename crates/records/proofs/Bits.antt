@@ -7,7 +7,6 @@ use native.Mathlib.Nat.{mod-eq_of_lt}
 use native.Mathlib.Omega.{arith}
 use lib.ListN.{get_or}
 use lib.Bits.{bit_and, bit_or, and_mask, or_shifted}
-use Rattle.records.specs.declared.fields.Fields.{Fields}
 use Rattle.records.specs.Records.{joined, split, fields_of}
 
 -- one more byte behind a number of 24 bits

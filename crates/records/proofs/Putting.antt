@@ -7,7 +7,7 @@ use native.Mathlib.Nat.{le_trans, add-zero, add-suc, suc-add, zero-add}
 use native.Mathlib.Omega.{arith}
 use lib.ListN.{length, set, drop, length-append}
 use lib.Seq.{sets, sets-eq, length-sets}
-use Rattle.records.specs.Lines.{Written, written_of}
+use Rattle.records.specs.Lines.{written_of}
 use Rattle.records.specs.Puts.{Puts}
 
 sets_append : (l : List ℕ) (i : ℕ) (s t : List ℕ) → sets (sets l i s) (i + length s) t ≡ sets l i (s ++ t)

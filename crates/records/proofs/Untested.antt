@@ -2,7 +2,6 @@
 -- sound set. So worked lines are computed without it, and take no longer the more places there are.
 -- Assumes nothing.
 use mathlib.Core.Path.{◌≡◌, refl, sym, ap, ◌∙◌}
-use mathlib.Core.Option.{Option}
 use mathlib.Core.List.{List, [], ◌∷◌, ◌++◌}
 use Prim.Native.Nat.{ℕ}
 use Rattle.refusals.specs.Answer.{Answer, accepted, refused, unsound, Outcome}

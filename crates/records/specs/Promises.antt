@@ -11,7 +11,7 @@ use Rattle.records.specs.declared.Wake.{Wake}
 use Rattle.records.specs.declared.Line.{Line}
 use Rattle.records.specs.declared.Answered.{Answered}
 use Rattle.records.specs.Answers.{operation_of, wake_in, wake_after, answer_of, replay_of, said_wake, said_line, told_by}
-use Rattle.records.specs.Lines.{line_of, Written, written_of}
+use Rattle.records.specs.Lines.{line_of, written_of}
 use Rattle.records.specs.Records.{fields_of, no_handle, no_value, bare, provided, call_of, decode_of, said_decoded}
 
 abbrev pub Decodes : List ℕ → Decoded → Type 0

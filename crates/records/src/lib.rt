@@ -4,6 +4,7 @@
 // `decode` reads a record, `answer` makes a call and says what its line is to tell, and `replay` is the two together; `write_line`
 // writes the line.
 #![tactic(auto)]
+
 mod fields;
 mod text;
 

@@ -6,6 +6,7 @@
 // one that was given. So the deadlines are always as many numbers in a row as there are places, the first of them one above the
 // reading, and each turn finds exactly as many timers due as were asked for.
 #![tactic(auto)]
+
 ghost use Rattle.std.specs.Prelude.{◌≡◌, ◌≤◌};
 ghost use Rattle.heap.specs.Capacity.{cap};
 ghost use Rattle.state.specs.Handles.{said_named};

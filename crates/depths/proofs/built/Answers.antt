@@ -2,7 +2,6 @@
 -- Assumes nothing.
 use mathlib.Core.Path.{ap, ◌∙◌}
 use Prim.Native.Nat.{◌/◌}
-use borrow.Author.Rules.{rules}
 use Rattle.state.specs.declared.Set.{Set}
 use Rattle.depths.specs.Rules.{each_of, built_of}
 use Rattle.depths.proofs.built.Goals as goal

@@ -1,9 +1,8 @@
 -- Each number below 10 has its row of the table; past the table it is the interval reset.
 -- Assumes nothing.
-use mathlib.Core.Path.{◌≡◌, sym, ap, ◌∙◌}
+use mathlib.Core.Path.{◌≡◌, sym}
 use Prim.Native.Nat.{ℕ, ◌+◌, ◌≤◌, zero-le}
 use native.Mathlib.Omega.{arith}
-use borrow.Author.Rules.{rules}
 use lib.ListN.{get_or-eq_default}
 use Rattle.depths.specs.Rules.{table, call_in}
 use Rattle.depths.proofs.call_of.Goals as goal

@@ -2,7 +2,6 @@
 -- Assumes nothing.
 use mathlib.Core.Path.{ap, ◌∙◌}
 use Prim.Native.Nat.{ℕ}
-use borrow.Author.Rules.{rules}
 use Rattle.refusals.specs.Answer.{Outcome}
 use Rattle.state.specs.declared.Set.{Set}
 use Rattle.timers.specs.Calls.{Value, Lent, turn_of}

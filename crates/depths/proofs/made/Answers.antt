@@ -1,7 +1,6 @@
 -- The call is made as `step` says, on a list of zeros.
 -- Assumes nothing.
-use mathlib.Core.Path.{◌≡◌, ap, ◌∙◌}
-use borrow.Author.Rules.{rules}
+use mathlib.Core.Path.{ap, ◌∙◌}
 use lib.ListN.{replicate}
 use Rattle.refusals.specs.Answer.{Outcome}
 use Rattle.heap.specs.Capacity.{cap}

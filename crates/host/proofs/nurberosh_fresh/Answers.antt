@@ -1,6 +1,5 @@
 -- The fresh set is sound, so that only the length can be refused.
 -- Assumes nothing.
-use borrow.Author.Rules.{rules}
 use Rattle.host.proofs.Settled.{freshens}
 use Rattle.host.proofs.nurberosh_fresh.Goals as goal
 

@@ -1,12 +1,11 @@
 -- A turn of the set that was read, its reports put as words, and its set written back. A turn that reports has a list as long as
 -- there are timers, so the report bytes have room for all its words.
 -- Assumes nothing.
-use mathlib.Core.Path.{refl, sym, ap}
-use Prim.Native.Nat.{ℕ, ◌≤◌}
+use mathlib.Core.Path.{refl, ap}
+use Prim.Native.Nat.{ℕ}
 use native.Mathlib.Omega.{arith}
 use borrow.Author.Rules.{rules}
-use lib.ListN.{get_or, length, take, drop, replicate, length-replicate}
-use lib.Seq.{length-take-le, length_front}
+use lib.ListN.{get_or, take, drop, replicate}
 use mir.Val.{Fits}
 use mir.Syntax.{w8}
 use Rattle.digits.specs.Digits.{Bytes}
@@ -33,13 +32,13 @@ pub put_words-requires-clause-n_in_bounds : goal.put_words-requires-clause-n_in_
 put_words-requires-clause-n_in_bounds c = let a = c.args in
     let s : Bytes a.image.now = record { small = λ j. let f : Fits w8 (get_or c.args.image.now j 0) = search rules in omega (arith, f.fits) } in
     let m = c.least-room.result in ran_within a.image.now a.reading a.reports.now c.read-got.result c.read-got.ensures s c.turn-a.result _ _ c.in_default.is
-          c.turn-a.ensures c.in-Ran.n c.in-Ran.popped (drop m (replicate cap 0)) c.in-Ran.is
+    c.turn-a.ensures c.in-Ran.n c.in-Ran.popped (drop m (replicate cap 0)) c.in-Ran.is
 
 pub put_words-requires-clause-n_in_bounds_2 : goal.put_words-requires-clause-n_in_bounds_2
 put_words-requires-clause-n_in_bounds_2 c = let a = c.args in
     let s : Bytes a.image.now = record { small = λ j. let f : Fits w8 (get_or c.args.image.now j 0) = search rules in omega (arith, f.fits) } in
     let m = c.least-room.result in ran_room a.image.now a.reading a.reports.now c.read-got.result c.read-got.ensures s c.turn-a.result _ _ c.in_default.is
-          c.turn-a.ensures c.in-Ran.n c.in-Ran.popped m c.in-Ran.is refl c.least-room.ensures
+    c.turn-a.ensures c.in-Ran.n c.in-Ran.popped m c.in-Ran.is refl c.least-room.ensures
 
 pub returns : goal.returns
 returns c =

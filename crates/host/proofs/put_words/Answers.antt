@@ -2,15 +2,14 @@
 -- Assumes nothing.
 use mathlib.Core.Path.{◌≡◌, refl, sym, ap, ◌∙◌}
 use mathlib.Core.List.{List, [], ◌∷◌, ◌++◌}
-use Prim.Native.Nat.{ℕ, zero, suc, ◌-◌, ◌*◌, ◌≤◌}
+use Prim.Native.Nat.{ℕ, zero, suc, ◌≤◌}
 use native.Mathlib.Omega.{arith}
-use borrow.Author.Rules.{rules}
 use lib.ListN.{get_or, take, length}
 use lib.Seq.{sets, take-suc}
 use Rattle.digits.specs.Digits.{digits}
 use Rattle.digits.specs.Rows.{rows, blocks}
 use Rattle.digits.proofs.Rows.{rows_more, rows_none}
-use Rattle.digits.proofs.Loops.{Putting, putting-none, putting-more, putting-all}
+use Rattle.digits.proofs.Loops.{putting-none, putting-more, putting-all}
 use Rattle.host.specs.Numbers.{word_bytes}
 use Rattle.host.proofs.put_words.Goals as goal
 

@@ -1,17 +1,9 @@
 -- Each turn puts one word behind those before it.
 -- Assumes nothing.
-use mathlib.Core.Path.{◌≡◌, refl, sym, ap, ◌∙◌}
-use mathlib.Core.List.{List, [], ◌∷◌, ◌++◌}
-use Prim.Native.Nat.{ℕ, zero, suc, ◌-◌, ◌*◌, ◌≤◌}
-use native.Mathlib.Omega.{arith}
-use borrow.Author.Rules.{rules}
-use lib.ListN.{get_or, take, length}
-use lib.Seq.{sets, take-suc}
+use Prim.Native.Nat.{◌-◌}
+use lib.ListN.{get_or}
 use Rattle.digits.specs.Digits.{digits}
-use Rattle.digits.specs.Rows.{rows, blocks}
-use Rattle.digits.proofs.Rows.{rows_more, rows_none}
-use Rattle.digits.proofs.Loops.{Putting, putting-none, putting-more, putting-all}
-use Rattle.host.specs.Numbers.{word_bytes}
+use Rattle.digits.proofs.Loops.{Putting}
 use Rattle.host.proofs.put_words.Given as goal
 
 abbrev pub invariant-loop-i : goal.invariant-loop-i

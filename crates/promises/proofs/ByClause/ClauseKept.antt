@@ -8,7 +8,6 @@ use Prim.Native.Nat.{ℕ}
 use native.Mathlib.Omega.{arith}
 use Rattle.state.specs.declared.Set.{Set}
 use Rattle.promises.specs.Clauses.{entries_fit, slots_fit, counted, positioned, ordered, chained, own_slots, own_entries, waiters_listed, only_waiters, listed_once, live_unmarked, cancelled_unmarked, closed_list, closed_heap, is_free, is_retired, none_held, none_listed, cancelled_listed, generations_fit, places_fit, Clause, clauses, broken_of, broken}
-use Rattle.promises.proofs.Drawn.Small.{few_right}
 
 -- every clause of a list of them holds
 abbrev All : Set → List Clause → Type 0

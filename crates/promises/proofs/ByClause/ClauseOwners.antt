@@ -17,7 +17,6 @@ use Rattle.heap.specs.declared.SlotState.TheVariants.{Full, Empty}
 use Rattle.heap.specs.Rules.{entry_at, state_at, items}
 use Rattle.state.specs.declared.Life.{Life}
 use Rattle.state.specs.declared.Held.{Held}
-use Rattle.state.specs.declared.Held.TheVariants as Held
 use Rattle.state.specs.declared.Timer.{Timer}
 use Rattle.state.specs.declared.Set.{Set}
 use Rattle.state.specs.State.{timer_at}

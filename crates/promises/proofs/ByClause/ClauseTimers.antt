@@ -21,7 +21,6 @@ use Rattle.word.specs.Rules.{invalid_in}
 use Rattle.state.specs.declared.Life.{Life}
 use Rattle.state.specs.declared.Life.TheVariants.{Free, Live, Cancelled, Retired}
 use Rattle.state.specs.declared.First.{First}
-use Rattle.state.specs.declared.First.TheVariants as First
 use Rattle.state.specs.declared.Timer.{Timer}
 use Rattle.state.specs.declared.Set.{Set}
 use Rattle.state.specs.State.{no_timer, timer_at, is_waiting, next_in, head_of}

@@ -13,12 +13,11 @@ use Rattle.heap.specs.Rules.{entry_at}
 use Rattle.heap.specs.Sound as Heap
 use Rattle.state.specs.declared.Life.{Life}
 use Rattle.state.specs.declared.Held.{Held}
-use Rattle.state.specs.declared.Held.TheVariants as Held
 use Rattle.state.specs.declared.Set.{Set}
 use Rattle.state.specs.State.{timer_at, is_waiting}
 use Rattle.state.specs.Sound.{Unused, Owns, Sound}
 use Rattle.state.proofs.PlaceTest.{ref_still}
-use Rattle.promises.specs.Clauses.{element, counted, ordered, chained, slot_of, listed, live_word, cancelled_word, is_free, is_retired, none_held, none_listed}
+use Rattle.promises.specs.Clauses.{element, slot_of, live_word, cancelled_word, is_free, is_retired, none_held, none_listed}
 use Rattle.promises.proofs.ByClause.ClauseHeap.{ref-counted, ref-positioned, ref-ordered}
 use Rattle.promises.proofs.ByClause.ClauseChain.{ref-chained}
 use Rattle.promises.proofs.ByClause.ClauseTimers.{waits_marked, timer_in_lem, ref-waiters, ref-only, ref_once, listed_ok, ref-live, ref-cancelled, ref-closed-list, ref-none-listed, ref-cancelled-listed}

@@ -13,14 +13,13 @@ use Rattle.heap.proofs.Soundness.SoundFacts.{full_back}
 use Rattle.state.specs.declared.Life.{Life}
 use Rattle.state.specs.declared.Life.TheVariants.{Free, Live, Cancelled, Retired}
 use Rattle.state.specs.declared.Held.{Held}
-use Rattle.state.specs.declared.Held.TheVariants as Held
 use Rattle.state.specs.declared.Timer.{Timer}
 use Rattle.state.specs.declared.Set.{Set}
 use Rattle.state.specs.State.{timer_at, is_waiting}
 use Rattle.state.specs.Faults.{waits_at}
 use Rattle.state.specs.Sound.{Unused, Sound}
 use Rattle.state.proofs.PlaceTest.{held_some}
-use Rattle.promises.specs.Clauses.{counted, ordered, chained, slot_of, own_slots, own_entries, listed, is_free, is_retired, none_held, none_listed}
+use Rattle.promises.specs.Clauses.{slot_of, own_slots, own_entries, listed, is_free, is_retired, none_held, none_listed}
 use Rattle.promises.proofs.ByClause.ClauseLists.{distinct_once}
 use Rattle.promises.proofs.ByClause.ClauseHeap.{ref-counted, ref-positioned, ref-ordered}
 use Rattle.promises.proofs.ByClause.ClauseChain.{ref-chained}

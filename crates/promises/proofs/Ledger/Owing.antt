@@ -13,7 +13,7 @@ use Rattle.state.specs.Handles.{handle_discrete}
 use Rattle.timers.specs.declared.Call.{Call}
 use Rattle.timers.specs.declared.Call.TheVariants as C
 use Rattle.timers.specs.Values.{handle_in}
-use Rattle.promises.specs.Turns.{Line, Ledger, owed, begun, moved, ended, rung, cleared, at, one_more, added, Seen, noted, note}
+use Rattle.promises.specs.Turns.{Line, Ledger, owed, begun, moved, ended, rung, cleared, at, added, Seen, noted, note}
 use Rattle.promises.specs.Timeouts.{aims}
 use Rattle.promises.proofs.Ledger.Told.{rung_not}
 

@@ -1,13 +1,12 @@
 -- Once a set is closed: a handle is live as the ledger says, and what a poll finds there is told by whether the timer was reported. A timer
 -- that was not reported waited or had an entry, so that the close met it and marked it.
 -- Assumes nothing.
-use mathlib.Core.Path.{◌≡◌, refl, sym, ap, subst, ◌∙◌}
-use mathlib.Core.Logic.{inl, ⊎_elim}
+use mathlib.Core.Path.{◌≡◌, refl, sym, ap, ◌∙◌}
+use mathlib.Core.Logic.{inl}
 use mathlib.Core.Bool.{Bool, true, false, cond}
 use mathlib.Core.Option.{Option, none, some}
 use Prim.Native.Nat.{ℕ, ◌+◌, ◌*◌, ◌/◌, ◌%◌}
 use native.Mathlib.Omega.{arith}
-use lib.Dec.{eqb}
 use Rattle.theory.specs.Tests.{bit}
 use Rattle.theory.proofs.Tests.{ref_eq, true_ref, false_ref}
 use Rattle.word.specs.Rules as Word
@@ -22,7 +21,7 @@ use Rattle.laws.proofs.Handles.ByHandle.{closed_keeps_due}
 use Rattle.laws.proofs.PlaceByPlace.Marked.{closed-marks, closed-marks-entry}
 use Rattle.laws.proofs.Handles.Still.{marks_fired}
 use Rattle.promises.specs.Turns.{Line, Ledger}
-use Rattle.promises.proofs.Ledger.Tracks.{Living, Stands, Tracks}
+use Rattle.promises.proofs.Ledger.Tracks.{Stands, Tracks}
 
 -- what a poll of the word answers
 abbrev pub found : ℕ → ℕ

@@ -23,7 +23,7 @@ use Rattle.state.specs.State.{fresh_of, timer_at}
 use Rattle.state.specs.Handles.{handle_discrete}
 use Rattle.state.specs.Sound.{Sound}
 use Rattle.moves.specs.Rules.{is_free, touched_of, lowest_free, drained_of, advanced_of}
-use Rattle.timers.specs.Calls.{Timing, live_at, reset_to}
+use Rattle.timers.specs.Calls.{Timing, live_at}
 use Rattle.laws.specs.Words.{Words}
 use Rattle.laws.specs.Rooms.{given_by, given_of, is_cancelled, InUses}
 use Rattle.laws.proofs.AnyCall.Found.{lowest_free_lem, lowest_in}
@@ -31,7 +31,7 @@ use Rattle.laws.proofs.Handles.Naming.{live_told}
 use Rattle.laws.proofs.Handles.ByHandle.{handle_at, touched-here, one_handle}
 use Rattle.laws.proofs.Entries.EntryOfTouch.{touched-other}
 use Rattle.laws.proofs.PlaceByPlace.Rooms as Rooms
-use Rattle.promises.specs.Turns.{Line, Ledger, blank, begun, moved, ended, at, each, one_more, cleared, rung}
+use Rattle.promises.specs.Turns.{Line, Ledger, blank, begun, moved, ended, at, one_more}
 use Rattle.promises.proofs.Ledger.Told.{told, swept}
 
 -- whether the handle's timer is cancelled and not drained

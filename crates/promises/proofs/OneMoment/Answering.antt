@@ -3,17 +3,16 @@
 -- Assumes nothing.
 use mathlib.Core.Path.{◌≡◌, refl, sym, ap, subst, ◌∙◌}
 use mathlib.Core.Logic.{◌≢◌}
-use mathlib.Core.Bool.{Bool, true, false, not, cond, ◌&&◌, ◌||◌}
+use mathlib.Core.Bool.{Bool, true, false, not, cond, ◌||◌}
 use mathlib.Core.Option.{Option, none, some}
 use mathlib.Core.List.{List}
-use Prim.Native.Nat.{ℕ, zero, suc, ◌*◌, ◌+◌, ◌≤◌, ◌<◌}
+use Prim.Native.Nat.{ℕ, zero, suc, ◌≤◌, ◌<◌}
 use native.Mathlib.Omega.{arith}
-use lib.Dec.{ltb, leb, eqb}
+use lib.Dec.{ltb, eqb}
 use lib.ListN.{length}
 use borrow.Author.Tests.{lt-ltb, le-ltb, le-leb, lt-leb}
-use Rattle.theory.specs.Tests.{bit}
 use Rattle.theory.specs.First.{first_bad}
-use Rattle.theory.proofs.Tests.{true_false, ref_lt, ref_eq, true_ref, false_ref, by-ref}
+use Rattle.theory.proofs.Tests.{ref_lt, ref_eq, true_ref, false_ref, by-ref}
 use Rattle.refusals.specs.Answer.{Answer, accepted, refused, Outcome, kept, unsound}
 use Rattle.heap.specs.Capacity.{cap}
 use Rattle.heap.specs.Rules.{entry_at}
@@ -30,22 +29,21 @@ use Rattle.state.proofs.Test.{sound-tells}
 use Rattle.moves.specs.Rules.{is_free, lowest_free, drained_of, Ring, advanced_of}
 use Rattle.timers.specs.declared.Call.{Call}
 use Rattle.timers.specs.declared.Call.TheVariants as C
-use Rattle.timers.specs.Values.{Value, nothing, handle, counts, wake, polled, time}
+use Rattle.timers.specs.Values.{Value, nothing, handle, wake, polled, time}
 use Rattle.timers.specs.Calls as Calls
 use Rattle.timers.specs.Calls.{Timing, timing_of, Lent, guarded, opened, alive, live_at, lent, rang, roomy, ticked, ticked_by, restarted_by, wake_by, step}
 use Rattle.timers.proofs.Guarding.{sound_none}
 use Rattle.laws.specs.Words.{Fit}
 use Rattle.laws.specs.EntryOf.{entry_of, waiting}
-use Rattle.laws.specs.Rooms.{given_by, given_of, is_cancelled}
+use Rattle.laws.specs.Rooms.{given_by, is_cancelled}
 use Rattle.laws.proofs.AnyCall.Found.{lowest_free_lem, lowest_in}
 use Rattle.laws.proofs.Handles.Naming.{names_same, names_other, live_in_range, live_none}
-use Rattle.laws.proofs.Handles.ByHandle.{handle_at}
 use Rattle.laws.proofs.Entries.EntryOfPop.{head-least}
 use Rattle.laws.proofs.PlaceByPlace.Rooms.{lowest_by}
-use Rattle.promises.specs.Turns.{Line, Ledger, owed, taken_by, taken_in, added_at, if_live, if_timed, Must, exactly, counting, waking, Answers, while_open, once_closed, must}
+use Rattle.promises.specs.Turns.{Ledger, taken_by, taken_in, added_at, if_live, if_timed, Must, exactly, counting, Answers, while_open, once_closed, must}
 use Rattle.promises.proofs.Ledger.Tracks.{Living, Stands, Tracks}
-use Rattle.promises.proofs.Ledger.TracksPlaces.{Housed, leaving_at, leaving_in, leaves_same, leaves_other}
-use Rattle.promises.proofs.Ledger.TracksClose.{Rests, Gone, found, open_poll, reported_fired}
+use Rattle.promises.proofs.Ledger.TracksPlaces.{Housed, leaving_in, leaves_same, leaves_other}
+use Rattle.promises.proofs.Ledger.TracksClose.{Rests, found, open_poll, reported_fired}
 use Rattle.promises.proofs.Ledger.TracksHead.{ready, ready_entry}
 use Rattle.promises.proofs.Ledger.TracksSteps.{Follows}
 

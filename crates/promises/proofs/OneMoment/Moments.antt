@@ -1,10 +1,10 @@
 -- One moment: what an accepted turn and an accepted advance report, that a lent list stays but for its reports, and the next wake where
 -- all is settled.
 -- Assumes nothing.
-use mathlib.Core.Path.{◌≡◌, refl, sym, ap, subst, ◌∙◌}
+use mathlib.Core.Path.{◌≡◌, refl, sym, ap, ◌∙◌}
 use mathlib.Core.Bool.{Bool, true, false, not, ◌&&◌, ◌||◌}
 use mathlib.Core.List.{List, filter_map}
-use Prim.Native.Nat.{ℕ, ◌+◌, ◌-◌, ◌≤◌, ◌<◌}
+use Prim.Native.Nat.{ℕ, ◌≤◌, ◌<◌}
 use native.Mathlib.Omega.{arith}
 use lib.Dec.{leb}
 use lib.ListN.{length}
@@ -24,26 +24,23 @@ use Rattle.timers.specs.declared.Call.{Call}
 use Rattle.timers.specs.declared.Call.TheVariants as C
 use Rattle.timers.specs.Values.{reports_in}
 use Rattle.timers.specs.Calls.{timing_of, rang, wake_by, step}
-use Rattle.laws.specs.Words.{Fit}
 use Rattle.laws.specs.EntryOf.{waiting}
 use Rattle.laws.specs.Rooms.{is_cancelled}
 use Rattle.laws.proofs.Handles.Naming.{names_same, live_in_range}
 use Rattle.laws.proofs.Handles.ByHandle.{handle_at}
 use Rattle.laws.proofs.AnyCall.CallCases.{LetIn, advance-by, turn_by}
 use Rattle.laws.proofs.Soundness.DrainSound.{drained-sound}
-use Rattle.laws.proofs.Soundness.AdvancedSound.{from_start, advanced_sound}
+use Rattle.laws.proofs.Soundness.AdvancedSound.{from_start}
 use Rattle.laws.proofs.Reporting.AdvancedList.{Kept, rest_kept, advanced_rest}
-use Rattle.laws.proofs.Entries.EntryOfPop.{advanced_waiting}
 use Rattle.promises.specs.Turns.{Line, Ledger, owed, settled, seen, Exact, Least, Run, Accepted}
 use Rattle.promises.specs.Engine.{handed, ours}
-use Rattle.promises.proofs.Ledger.Told.{told, swept}
-use Rattle.promises.proofs.Ledger.Tracks.{Tracks}
+use Rattle.promises.proofs.Ledger.Told.{swept}
 use Rattle.promises.proofs.Ledger.TracksTouch.{living}
 use Rattle.promises.proofs.Ledger.TracksPlaces.{leaving_in, leaves_same}
 use Rattle.promises.proofs.Ledger.TracksDrain.{none-waiting, drain-tracks}
 use Rattle.promises.proofs.Ledger.TracksHead.{ready, Safe, not_true}
 use Rattle.promises.proofs.Ledger.TracksRing.{Rang, called}
-use Rattle.promises.proofs.Ledger.TracksSteps.{Low, advanced_rang, rang_out, now}
+use Rattle.promises.proofs.Ledger.TracksSteps.{Low, advanced_rang, now}
 use Rattle.promises.proofs.OneMoment.Waking.{wake-least}
 use Rattle.promises.proofs.Ledger.Runs.{Good}
 

@@ -3,14 +3,13 @@
 use mathlib.Core.Path.{◌≡◌, ap, ◌∙◌}
 use mathlib.Core.List.{List}
 use Prim.Native.Nat.{ℕ}
-use borrow.Author.Rules.{rules}
 use Rattle.refusals.specs.Answer.{Outcome}
 use Rattle.state.specs.declared.Set.{Set}
 use Rattle.timers.specs.declared.Call.{Call}
 use Rattle.timers.specs.declared.After.{After}
 use Rattle.timers.specs.Calls.{Value, Lent, lent, step, said, told_with}
 use Rattle.records.specs.declared.Wake.{Wake}
-use Rattle.records.specs.Answers.{made, Answered, operation_of, wake_after, tells, answer_of, said_wake}
+use Rattle.records.specs.Answers.{made, operation_of, wake_after, tells, answer_of, said_wake}
 use Rattle.records.proofs.answer.Goals as goal
 
 -- what is told of a call that was made as the rule says

@@ -1,7 +1,6 @@
 -- The call of the record's fields.
 -- Assumes nothing.
 use mathlib.Core.Path.{ap, ◌∙◌}
-use borrow.Author.Rules.{rules}
 use Rattle.records.specs.Records.{call_of, decode_of}
 use Rattle.records.proofs.decode.Goals as goal
 

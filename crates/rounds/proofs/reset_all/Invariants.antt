@@ -1,9 +1,7 @@
 -- At each turn the words to go make of the run what all of them make of the first one.
 -- Assumes nothing.
-use Rattle.std.proofs.Common.{◌≡◌, ℕ, ◌+◌, ◌-◌, ◌≤◌, get_or, sym, ap, ◌∙◌, arith, rules}
-use Rattle.rounds.specs.declared.Run.{Run}
-use Rattle.rounds.specs.Rules.{reset_of, reset_from}
-use Rattle.rounds.proofs.Walks.{reset_goes, reset_done}
+use Rattle.std.proofs.Common.{◌≡◌, ◌-◌, ◌≤◌}
+use Rattle.rounds.specs.Rules.{reset_from}
 use Rattle.rounds.proofs.reset_all.Given as goal
 
 abbrev pub invariant-loop-j : goal.invariant-loop-j

@@ -1,6 +1,6 @@
 -- The reset is that of the rule, since whom it names and its deadline are.
 -- Assumes nothing.
-use Rattle.std.proofs.Common.{◌≡◌, ℕ, ◌+◌, ap, ◌∙◌, rules}
+use Rattle.std.proofs.Common.{◌≡◌, ℕ, ◌+◌, ap, ◌∙◌}
 use mathlib.Core.Option.{Option}
 use Rattle.state.specs.declared.Handle.{Handle}
 use Rattle.state.specs.Handles.{named_by}

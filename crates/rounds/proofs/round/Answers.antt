@@ -1,6 +1,6 @@
 -- The turn is that of the rule, and so are the counts that it answers and the list that it leaves.
 -- Assumes nothing.
-use Rattle.std.proofs.Common.{◌≡◌, ℕ, ap, ◌∙◌, rules}
+use Rattle.std.proofs.Common.{◌≡◌, ℕ, ap, ◌∙◌}
 use Rattle.refusals.specs.Answer.{Outcome}
 use Rattle.timers.specs.Calls as Calls
 use Rattle.timers.specs.Calls.{Value}

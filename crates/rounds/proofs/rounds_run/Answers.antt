@@ -1,6 +1,6 @@
 -- At each turn the rounds to go answer what all of them answer from the start.
 -- Assumes nothing.
-use Rattle.std.proofs.Common.{◌≡◌, ℕ, ◌-◌, replicate, sym, refl, ap, ◌∙◌, arith, rules}
+use Rattle.std.proofs.Common.{ℕ, ◌-◌, replicate, sym, ap, ◌∙◌, arith}
 use Rattle.heap.specs.Capacity.{cap}
 use Rattle.state.specs.declared.Set.{Set}
 use Rattle.rounds.specs.Rules.{least_of, Lent, round_of, rounds_from, rounds_of}

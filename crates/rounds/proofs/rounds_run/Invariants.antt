@@ -1,11 +1,8 @@
 -- At each turn the rounds to go answer what all of them answer from the start.
 -- Assumes nothing.
-use Rattle.std.proofs.Common.{◌≡◌, ℕ, ◌-◌, replicate, sym, refl, ap, ◌∙◌, arith, rules}
-use Rattle.heap.specs.Capacity.{cap}
-use Rattle.state.specs.declared.Set.{Set}
-use Rattle.rounds.specs.Rules.{least_of, Lent, round_of, rounds_from, rounds_of}
+use Rattle.std.proofs.Common.{◌≡◌}
+use Rattle.rounds.specs.Rules.{rounds_from}
 use Rattle.rounds.specs.Promises.{lent}
-use Rattle.rounds.proofs.Walks.{rounds_goes, rounds_done}
 use Rattle.rounds.proofs.rounds_run.Given as goal
 
 abbrev pub invariant-loop-left : goal.invariant-loop-left

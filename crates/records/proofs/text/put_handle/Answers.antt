@@ -1,16 +1,15 @@
 -- Where the word names a handle, its place and its use number have at most 10 digits each; where it names nobody there are two bytes.
 -- Assumes nothing.
 use mathlib.Core.Path.{◌≡◌, sym, ap, subst}
-use mathlib.Core.Option.{Option, none, some}
-use Prim.Native.Nat.{ℕ, ◌≤◌}
+use mathlib.Core.Option.{Option, some}
+use Prim.Native.Nat.{◌≤◌}
 use native.Mathlib.Omega.{arith}
-use borrow.Author.Rules.{rules}
 use lib.ListN.{length}
 use Rattle.state.specs.declared.Handle.{Handle}
 use Rattle.state.specs.Handles.{named_by}
 use Rattle.records.specs.Lines.{spaced, name_text}
 use Rattle.records.proofs.Handles.{handle_digits, handle_short}
-use Rattle.records.proofs.Putting.{puts_then, puts-as, puts-same}
+use Rattle.records.proofs.Putting.{puts_then, puts-as}
 use Rattle.records.proofs.text.put_handle.Goals as goal
 
 pub put_digits-b-requires : goal.put_digits-b-requires

@@ -1,15 +1,9 @@
 -- Each turn puts the handle of the next word behind those before it.
 -- Assumes nothing.
-use mathlib.Core.Path.{◌≡◌, refl, subst, ◌∙◌}
-use mathlib.Core.List.{List}
-use Prim.Native.Nat.{ℕ, ◌*◌, ◌-◌, ◌≤◌}
+use mathlib.Core.Path.{◌∙◌}
 use native.Mathlib.Omega.{arith}
-use lib.ListN.{length, take}
-use Rattle.records.specs.Lines.{handles_text}
-use Rattle.records.specs.Puts.{Puts}
 use Rattle.records.proofs.Handles.{handles_more}
-use Rattle.records.proofs.Putting.{puts_none, puts_then, puts-same}
-use Rattle.records.proofs.text.put_handles.Invariants.{Going}
+use Rattle.records.proofs.Putting.{puts_then, puts-same}
 use Rattle.records.proofs.text.put_handles.Goals as goal
 
 pub loop-i-preserved : goal.loop-i-preserved

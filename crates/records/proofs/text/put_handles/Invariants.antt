@@ -1,14 +1,11 @@
 -- Each turn puts the handle of the next word behind those before it.
 -- Assumes nothing.
-use mathlib.Core.Path.{◌≡◌, refl, subst, ◌∙◌}
+use mathlib.Core.Path.{◌≡◌}
 use mathlib.Core.List.{List}
 use Prim.Native.Nat.{ℕ, ◌*◌, ◌-◌, ◌≤◌}
-use native.Mathlib.Omega.{arith}
 use lib.ListN.{length, take}
 use Rattle.records.specs.Lines.{handles_text}
 use Rattle.records.specs.Puts.{Puts}
-use Rattle.records.proofs.Handles.{handles_more}
-use Rattle.records.proofs.Putting.{puts_none, puts_then, puts-same}
 use Rattle.records.proofs.text.put_handles.Given as goal
 
 -- the handles of the first i words are put

@@ -1,9 +1,7 @@
 -- A blank and the digits, of which a number of 64 bits has at most 20.
 -- Assumes nothing.
 use native.Mathlib.Omega.{arith}
-use borrow.Author.Rules.{rules}
 use Rattle.records.proofs.Decimal.{digits_of_64}
-use Rattle.records.proofs.Putting.{puts_then}
 use Rattle.records.proofs.text.put_number.Goals as goal
 
 pub put_digits-requires : goal.put_digits-requires

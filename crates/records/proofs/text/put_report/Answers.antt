@@ -4,7 +4,6 @@ use mathlib.Core.Path.{sym, ap}
 use mathlib.Core.List.{◌++◌}
 use Prim.Native.Nat.{ℕ}
 use native.Mathlib.Omega.{arith}
-use borrow.Author.Rules.{rules}
 use lib.ListN.{take}
 use lib.Seq.{length-take-le}
 use Rattle.records.specs.Answers.{said_wake}
