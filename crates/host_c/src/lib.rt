@@ -1,6 +1,7 @@
 // What C calls: each function of the library `host` that include/nurberosh.h declares, exported under its name. A library that other crates
 // lean on exports nothing itself. Each promises what the library's function does.
 #![tactic(auto)]
+
 ghost use Rattle.host.specs.Promises.{Freshens, Adds, Resets, Cancels, Turns, Wakes};
 
 // Makes the image that of a fresh set.
