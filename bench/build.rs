@@ -1,4 +1,4 @@
-//! Says where the archive is that `rt staticlib rounds` writes.
+//! Says where the archive is that `scripts/archive rounds` leaves.
 
 use std::env;
 

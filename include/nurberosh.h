@@ -2,7 +2,7 @@
  * nurberosh.h: a set of timers for a host written in C.
  *
  * The host lends the set as an image, NURBEROSH_IMAGE_BYTES bytes of its own memory, and makes a call on it; between two calls the
- * image is the whole of the set. docs/IMAGE.md is its format. Link target/staticlib/libhost.a, which `rt staticlib host` proves and
+ * image is the whole of the set. docs/IMAGE.md is its format. Link target/staticlib/libhost.a, which `scripts/archive host` proves and
  * builds, for x86-64 alone; of the C library it needs memcpy and the like. It allocates nothing and keeps nothing.
  *
  * Who owns what.

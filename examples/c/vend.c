@@ -1,7 +1,7 @@
 /*
  * A vend on a host written in C: the payment session has 30 seconds, the spiral 8. From the top of the repository:
  *
- *   rt staticlib host && cc -std=c99 -Iinclude -o vend examples/c/vend.c target/staticlib/libhost.a && ./vend
+ *   scripts/archive host && cc -std=c99 -Iinclude -o vend examples/c/vend.c target/staticlib/libhost.a && ./vend
  *
  * It must print what examples/c/vend.out has. The set lives in `image`, 8,969 bytes of this program; nothing else remembers a timer.
  */

@@ -1,5 +1,6 @@
 // The calls of a C host: each is a call of `timers` on the set whose image the host lends, between reading the image and writing it
-// back. include/nurberosh.h declares them; a slice is a pointer and a count there, and a lent number a pointer.
+// back. include/nurberosh.h declares them, and the crate `host_c` exports them; a slice is a pointer and a count there, and a lent number
+// a pointer.
 //
 // The answer is a status: 0 where the call is accepted, and else why it is refused. A refused call writes nothing.
 #![tactic(auto)]
