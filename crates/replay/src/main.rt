@@ -3,6 +3,7 @@
 // last line is `failed read`; where a write fails nothing more is written, and the program ends with that error. So an output that does
 // not end in one of the first two is not whole.
 #![tactic(auto)]
+
 use heap::CAP;
 use records::LINE;
 use state::Set;
