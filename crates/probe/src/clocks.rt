@@ -1,13 +1,12 @@
 // The calls on a clock alone, and the lines that tell of them.
 use crate::record::Record;
 use crate::text;
-use crate::text::Output;
 use clock::{Change, Changed, Clock};
 use refusals::time::Time;
-use std::io;
+use std::alloc::AllocError;
 
 // Makes the call of a record on a clock and tells of it.
-pub fn told(c: &mut Clock, r: Record, out: &mut Output) -> io::Result<()> {
+pub fn told(c: &mut Clock, r: Record, out: &mut Vec<u8>) -> Result<(), AllocError> {
     if 28 < r.op {
         return text::unknown(out);
     }
@@ -17,7 +16,7 @@ pub fn told(c: &mut Clock, r: Record, out: &mut Output) -> io::Result<()> {
 }
 
 // Makes the call of a record, 24 to 28, and puts what it answers.
-fn made(c: &mut Clock, r: Record, out: &mut Output) -> io::Result<()> {
+fn made(c: &mut Clock, r: Record, out: &mut Vec<u8>) -> Result<(), AllocError> {
     match r.op {
         24 => {
             *c = clock::fresh(r.a);
@@ -31,7 +30,7 @@ fn made(c: &mut Clock, r: Record, out: &mut Output) -> io::Result<()> {
 }
 
 // Takes over the clock that a change left, and puts what the change answered.
-fn changed(c: &mut Clock, after: Changed, out: &mut Output) -> io::Result<()> {
+fn changed(c: &mut Clock, after: Changed, out: &mut Vec<u8>) -> Result<(), AllocError> {
     *c = after.clock;
     match after.answer {
         Change::Done => text::accepted(out),
@@ -40,7 +39,7 @@ fn changed(c: &mut Clock, after: Changed, out: &mut Output) -> io::Result<()> {
 }
 
 // What a reading answered.
-fn read(t: Time, out: &mut Output) -> io::Result<()> {
+fn read(t: Time, out: &mut Vec<u8>) -> Result<(), AllocError> {
     match t {
         Time::At(time) => {
             text::accepted(out)?;
@@ -51,7 +50,7 @@ fn read(t: Time, out: &mut Output) -> io::Result<()> {
 }
 
 // Shows a clock, and ends the line.
-fn shown(c: Clock, out: &mut Output) -> io::Result<()> {
+fn shown(c: Clock, out: &mut Vec<u8>) -> Result<(), AllocError> {
     match c {
         Clock::Running { base, start } => {
             text::bytes(b" | r", out)?;

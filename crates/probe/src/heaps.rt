@@ -1,14 +1,13 @@
 // The calls on a heap alone, and the lines that tell of them.
 use crate::record::Record;
 use crate::text;
-use crate::text::Output;
 use heap::{
     AfterPush, AfterRemove, Entry, Heap, Peeked, Place, Pushed, Removed, SlabSlot, Slot, SlotState,
 };
-use std::io;
+use std::alloc::AllocError;
 
 // Makes the call of a record on a heap and tells of it.
-pub fn told(h: &mut Heap, r: Record, out: &mut Output) -> io::Result<()> {
+pub fn told(h: &mut Heap, r: Record, out: &mut Vec<u8>) -> Result<(), AllocError> {
     if 20 < r.op {
         return text::unknown(out);
     }
@@ -18,7 +17,7 @@ pub fn told(h: &mut Heap, r: Record, out: &mut Output) -> io::Result<()> {
 }
 
 // Makes the call of a record, 16 to 20, and puts what it answers.
-fn made(h: &mut Heap, r: Record, out: &mut Output) -> io::Result<()> {
+fn made(h: &mut Heap, r: Record, out: &mut Vec<u8>) -> Result<(), AllocError> {
     match r.op {
         16 => pushed(h, heap::push(*h, r.a, 0, Place(0)), out),
         17 => removed(h, heap::remove(*h, Slot(r.place)), out),
@@ -29,7 +28,7 @@ fn made(h: &mut Heap, r: Record, out: &mut Output) -> io::Result<()> {
 }
 
 // Takes over the heap that a push left, and puts what it answered: the slot and the swaps.
-fn pushed(h: &mut Heap, after: AfterPush, out: &mut Output) -> io::Result<()> {
+fn pushed(h: &mut Heap, after: AfterPush, out: &mut Vec<u8>) -> Result<(), AllocError> {
     *h = after.heap;
     match after.answer {
         Pushed::Done { slot, swaps } => {
@@ -42,7 +41,7 @@ fn pushed(h: &mut Heap, after: AfterPush, out: &mut Output) -> io::Result<()> {
 }
 
 // Takes over the heap that a removal by slot left, and puts what it answered: the deadline and the swaps.
-fn removed(h: &mut Heap, after: AfterRemove, out: &mut Output) -> io::Result<()> {
+fn removed(h: &mut Heap, after: AfterRemove, out: &mut Vec<u8>) -> Result<(), AllocError> {
     *h = after.heap;
     match after.answer {
         Removed::Done { entry, swaps } => {
@@ -56,7 +55,7 @@ fn removed(h: &mut Heap, after: AfterRemove, out: &mut Output) -> io::Result<()>
 }
 
 // Takes over the heap that a pop left, and puts what it answered: the deadline, the slot and the swaps, or nothing.
-fn popped(h: &mut Heap, after: AfterRemove, out: &mut Output) -> io::Result<()> {
+fn popped(h: &mut Heap, after: AfterRemove, out: &mut Vec<u8>) -> Result<(), AllocError> {
     *h = after.heap;
     match after.answer {
         Removed::Done { entry, swaps } => {
@@ -69,7 +68,7 @@ fn popped(h: &mut Heap, after: AfterRemove, out: &mut Output) -> io::Result<()> 
 }
 
 // What a peek answered: the deadline and the slot, or nothing.
-fn peeked(p: Peeked, out: &mut Output) -> io::Result<()> {
+fn peeked(p: Peeked, out: &mut Vec<u8>) -> Result<(), AllocError> {
     match p {
         Peeked::Head(entry) => head(entry, out),
         Peeked::Nothing => nothing(out),
@@ -78,26 +77,26 @@ fn peeked(p: Peeked, out: &mut Output) -> io::Result<()> {
 }
 
 // What the heap test answered.
-fn tested(sound: bool, out: &mut Output) -> io::Result<()> {
+fn tested(sound: bool, out: &mut Vec<u8>) -> Result<(), AllocError> {
     text::accepted(out)?;
     text::field(sound as u64, out)
 }
 
 // The answer with an entry: its deadline and its slot.
-fn head(e: Entry, out: &mut Output) -> io::Result<()> {
+fn head(e: Entry, out: &mut Vec<u8>) -> Result<(), AllocError> {
     text::accepted(out)?;
     text::field(e.at, out)?;
     text::field(e.slot.0 as u64, out)
 }
 
 // The answer that there is no entry.
-fn nothing(out: &mut Output) -> io::Result<()> {
+fn nothing(out: &mut Vec<u8>) -> Result<(), AllocError> {
     text::accepted(out)?;
     text::mark(b'-', out)
 }
 
 // Shows a heap, and ends the line.
-fn shown(h: &Heap, out: &mut Output) -> io::Result<()> {
+fn shown(h: &Heap, out: &mut Vec<u8>) -> Result<(), AllocError> {
     text::mark(b'|', out)?;
     entries(h, false, out)?;
     text::mark(b'|', out)?;
@@ -108,7 +107,7 @@ fn shown(h: &Heap, out: &mut Output) -> io::Result<()> {
 }
 
 // A heap's entries by position, whole or in short.
-pub fn entries(h: &Heap, whole: bool, out: &mut Output) -> io::Result<()> {
+pub fn entries(h: &Heap, whole: bool, out: &mut Vec<u8>) -> Result<(), AllocError> {
     for e in h.entries.iter().take(h.len) {
         entry(*e, whole, out)?;
     }
@@ -116,7 +115,7 @@ pub fn entries(h: &Heap, whole: bool, out: &mut Output) -> io::Result<()> {
 }
 
 // An entry: its deadline and its slot; a whole one with its generation and its place between them.
-fn entry(e: Entry, whole: bool, out: &mut Output) -> io::Result<()> {
+fn entry(e: Entry, whole: bool, out: &mut Vec<u8>) -> Result<(), AllocError> {
     text::field(e.at, out)?;
     if whole {
         text::part(e.generation as u64, out)?;
@@ -126,7 +125,7 @@ fn entry(e: Entry, whole: bool, out: &mut Output) -> io::Result<()> {
 }
 
 // The slots that were made.
-fn slots(h: &Heap, out: &mut Output) -> io::Result<()> {
+fn slots(h: &Heap, out: &mut Vec<u8>) -> Result<(), AllocError> {
     for s in h.slots.iter().take(h.made) {
         slot(*s, out)?;
     }
@@ -134,7 +133,7 @@ fn slots(h: &Heap, out: &mut Output) -> io::Result<()> {
 }
 
 // A slot: a full one with its position, or an empty one with the next free slot.
-fn slot(s: SlabSlot, out: &mut Output) -> io::Result<()> {
+fn slot(s: SlabSlot, out: &mut Vec<u8>) -> Result<(), AllocError> {
     match s.state {
         SlotState::Full(pos) => {
             text::mark(b'F', out)?;

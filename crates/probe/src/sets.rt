@@ -1,13 +1,12 @@
 // The calls on a set of timers, and the lines that tell of them.
 use crate::record::Record;
-use crate::text::Output;
 use crate::{heaps, text};
 use heap::Place;
 use interval::Policy;
 use refusals::Refusal;
 use refusals::time::Left;
 use state::{First, Handle, Held, Life, Named, Set, Timer, Waiting};
-use std::io;
+use std::alloc::AllocError;
 use timers::left::Least;
 use timers::{After, Call, Reply};
 use word::Polled;
@@ -28,7 +27,7 @@ enum Wish {
 }
 
 // Makes the call of a record on a set and tells of it.
-pub fn told(s: &mut Set, r: Record, out: &mut Output) -> io::Result<()> {
+pub fn told(s: &mut Set, r: Record, out: &mut Vec<u8>) -> Result<(), AllocError> {
     match wish_of(r) {
         Wish::Call(call) => performed(s, r, call, out),
         Wish::Word { handle, word } => reworded(s, r, handle, word, out),
@@ -37,7 +36,7 @@ pub fn told(s: &mut Set, r: Record, out: &mut Output) -> io::Result<()> {
 }
 
 // Makes a call, with a list of the length that an advance asks for, and tells of it.
-fn performed(s: &mut Set, r: Record, call: Call, out: &mut Output) -> io::Result<()> {
+fn performed(s: &mut Set, r: Record, call: Call, out: &mut Vec<u8>) -> Result<(), AllocError> {
     let mut list = [0u64; heap::CAP];
     let a = timers::perform(*s, call, &mut list);
     *s = a.set;
@@ -47,7 +46,13 @@ fn performed(s: &mut Set, r: Record, call: Call, out: &mut Output) -> io::Result
 }
 
 // Gives a live timer another state word, and tells of it.
-fn reworded(s: &mut Set, r: Record, handle: Handle, word: u32, out: &mut Output) -> io::Result<()> {
+fn reworded(
+    s: &mut Set,
+    r: Record,
+    handle: Handle,
+    word: u32,
+    out: &mut Vec<u8>,
+) -> Result<(), AllocError> {
     let a = with_word(*s, handle, word);
     *s = a.set;
     text::number(r.op as u64, out)?;
@@ -154,7 +159,7 @@ fn with_life(t: Timer, life: Life) -> Timer {
 }
 
 // What a call answered.
-fn answer(reply: Reply, list: &[u64; heap::CAP], out: &mut Output) -> io::Result<()> {
+fn answer(reply: Reply, list: &[u64; heap::CAP], out: &mut Vec<u8>) -> Result<(), AllocError> {
     match reply {
         Reply::Added(handle) => {
             text::accepted(out)?;
@@ -188,7 +193,7 @@ fn answer(reply: Reply, list: &[u64; heap::CAP], out: &mut Output) -> io::Result
 }
 
 // What a call that answers no values answered.
-fn done(reply: Reply, out: &mut Output) -> io::Result<()> {
+fn done(reply: Reply, out: &mut Vec<u8>) -> Result<(), AllocError> {
     match reply {
         Reply::Refused(why) => text::refused(why, out),
         _ => text::accepted(out),
@@ -196,7 +201,7 @@ fn done(reply: Reply, out: &mut Output) -> io::Result<()> {
 }
 
 // What a poll found.
-fn found(polled: Polled, out: &mut Output) -> io::Result<()> {
+fn found(polled: Polled, out: &mut Vec<u8>) -> Result<(), AllocError> {
     match polled {
         Polled::Pending => text::field(0, out),
         Polled::Fired => text::field(1, out),
@@ -205,7 +210,7 @@ fn found(polled: Polled, out: &mut Output) -> io::Result<()> {
 }
 
 // The handles that were reported, each as place and use number.
-fn reports(list: &[u64; heap::CAP], reported: usize, out: &mut Output) -> io::Result<()> {
+fn reports(list: &[u64; heap::CAP], reported: usize, out: &mut Vec<u8>) -> Result<(), AllocError> {
     for word in list.iter().take(reported) {
         name(*word, out)?;
     }
@@ -213,7 +218,7 @@ fn reports(list: &[u64; heap::CAP], reported: usize, out: &mut Output) -> io::Re
 }
 
 // Whom a word names, as place and use number; a question mark for nobody.
-fn name(word: u64, out: &mut Output) -> io::Result<()> {
+fn name(word: u64, out: &mut Vec<u8>) -> Result<(), AllocError> {
     match state::handle_of(word) {
         Named::Nobody => text::mark(b'?', out),
         Named::Handle(handle) => {
@@ -224,7 +229,7 @@ fn name(word: u64, out: &mut Output) -> io::Result<()> {
 }
 
 // Shows a set, with how long is left at a reading, and ends the line.
-fn shown(s: &Set, reading: u64, out: &mut Output) -> io::Result<()> {
+fn shown(s: &Set, reading: u64, out: &mut Vec<u8>) -> Result<(), AllocError> {
     text::mark(b'|', out)?;
     wake(s, out)?;
     least(timers::left::least_left(*s, reading), out)?;
@@ -238,7 +243,7 @@ fn shown(s: &Set, reading: u64, out: &mut Output) -> io::Result<()> {
 }
 
 // The next wake.
-fn wake(s: &Set, out: &mut Output) -> io::Result<()> {
+fn wake(s: &Set, out: &mut Vec<u8>) -> Result<(), AllocError> {
     match timers::next_wake(*s).reply {
         Reply::WakeAt(wake) => text::field(wake, out),
         Reply::NoWake => text::mark(b'-', out),
@@ -247,7 +252,7 @@ fn wake(s: &Set, out: &mut Output) -> io::Result<()> {
 }
 
 // The least that is left, or none.
-fn least(l: Least, out: &mut Output) -> io::Result<()> {
+fn least(l: Least, out: &mut Vec<u8>) -> Result<(), AllocError> {
     text::byte(b' ', out)?;
     match l {
         Least::Nothing => text::byte(b'-', out),
@@ -257,7 +262,7 @@ fn least(l: Least, out: &mut Output) -> io::Result<()> {
 }
 
 // The waiting list from its head, no longer than there are places.
-fn waiting(s: &Set, out: &mut Output) -> io::Result<()> {
+fn waiting(s: &Set, out: &mut Vec<u8>) -> Result<(), AllocError> {
     let mut p = head(s.first);
     for _ in 0..heap::CAP {
         if heap::CAP <= p {
@@ -287,7 +292,7 @@ fn next(t: Timer) -> usize {
 }
 
 // The places that are not as in a fresh set, each with how long its timer has to go at a reading.
-fn places(s: &Set, reading: u64, out: &mut Output) -> io::Result<()> {
+fn places(s: &Set, reading: u64, out: &mut Vec<u8>) -> Result<(), AllocError> {
     for p in 0..heap::CAP {
         let t = s.timers[p];
         if used(t) {
@@ -311,7 +316,7 @@ fn used(t: Timer) -> bool {
 }
 
 // A place: its number, its use number, whose it is, the state word, the deadline and the slot.
-fn place(p: u64, t: Timer, out: &mut Output) -> io::Result<()> {
+fn place(p: u64, t: Timer, out: &mut Vec<u8>) -> Result<(), AllocError> {
     text::field(p, out)?;
     text::part(t.uses as u64, out)?;
     life(t.life, out)?;
@@ -319,7 +324,7 @@ fn place(p: u64, t: Timer, out: &mut Output) -> io::Result<()> {
 }
 
 // How long a timer has to go.
-fn left(l: Left, out: &mut Output) -> io::Result<()> {
+fn left(l: Left, out: &mut Vec<u8>) -> Result<(), AllocError> {
     text::byte(b':', out)?;
     match l {
         Left::Nanos(nanos) => text::signed(nanos, out),
@@ -328,7 +333,7 @@ fn left(l: Left, out: &mut Output) -> io::Result<()> {
 }
 
 // Whose a place is, with the state word and the deadline.
-fn life(l: Life, out: &mut Output) -> io::Result<()> {
+fn life(l: Life, out: &mut Vec<u8>) -> Result<(), AllocError> {
     match l {
         Life::Free => text::bytes(b":F:-:-", out),
         Life::Live { word, due } => {
@@ -346,7 +351,7 @@ fn life(l: Life, out: &mut Output) -> io::Result<()> {
 }
 
 // The slot of a timer's entry.
-fn held(h: Held, out: &mut Output) -> io::Result<()> {
+fn held(h: Held, out: &mut Vec<u8>) -> Result<(), AllocError> {
     match h {
         Held::Nothing => text::bytes(b":-", out),
         Held::At(slot) => text::part(slot.0 as u64, out),
