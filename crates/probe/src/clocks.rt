@@ -1,78 +1,66 @@
 // The calls on a clock alone, and the lines that tell of them.
 use crate::record::Record;
 use crate::text;
-use crate::text::ROOM;
 use clock::{Change, Changed, Clock};
 use refusals::time::Time;
-
-// What is kept after a record: the clock, and how many bytes of text are gathered.
-#[derive(Clone, Copy)]
-pub struct Kept {
-    pub clock: Clock,
-    pub at: usize,
-}
+use std::alloc::AllocError;
 
 // Makes the call of a record on a clock and tells of it.
-pub fn told(c: Clock, r: Record, at: usize, out: &mut [u8; ROOM]) -> Kept {
+pub fn told(c: &mut Clock, r: Record, out: &mut Vec<u8>) -> Result<(), AllocError> {
     if 28 < r.op {
-        return Kept {
-            clock: c,
-            at: text::unknown(at, out),
-        };
+        return text::unknown(out);
     }
-    let k = made(c, r, text::number(at, r.op as u64, out), out);
-    let d = k.clock;
-    Kept {
-        clock: d,
-        at: shown(d, k.at, out),
-    }
+    text::number(r.op as u64, out)?;
+    made(c, r, out)?;
+    shown(*c, out)
 }
 
 // Makes the call of a record, 24 to 28, and puts what it answers.
-fn made(c: Clock, r: Record, at: usize, out: &mut [u8; ROOM]) -> Kept {
-    let op = r.op;
-    match op {
-        24 => Kept {
-            clock: clock::fresh(r.a),
-            at: text::accepted(at, out),
-        },
-        25 => Kept {
-            clock: c,
-            at: read(clock::reading(c, r.a), at, out),
-        },
-        26 => changed(clock::pause(c, r.a), at, out),
-        27 => changed(clock::resume(c, r.a), at, out),
-        _ => changed(clock::advance(c, r.a), at, out),
+fn made(c: &mut Clock, r: Record, out: &mut Vec<u8>) -> Result<(), AllocError> {
+    match r.op {
+        24 => {
+            *c = clock::fresh(r.a);
+            text::accepted(out)
+        }
+        25 => read(clock::reading(*c, r.a), out),
+        26 => changed(c, clock::pause(*c, r.a), out),
+        27 => changed(c, clock::resume(*c, r.a), out),
+        _ => changed(c, clock::advance(*c, r.a), out),
     }
 }
 
-// What a change answered.
-fn changed(c: Changed, at: usize, out: &mut [u8; ROOM]) -> Kept {
-    let answer = c.answer;
-    let n = match answer {
-        Change::Done => text::accepted(at, out),
-        Change::Refused(why) => text::refused(at, why, out),
-    };
-    let d = c.clock;
-    Kept { clock: d, at: n }
+// Takes over the clock that a change left, and puts what the change answered.
+fn changed(c: &mut Clock, after: Changed, out: &mut Vec<u8>) -> Result<(), AllocError> {
+    *c = after.clock;
+    match after.answer {
+        Change::Done => text::accepted(out),
+        Change::Refused(why) => text::refused(why, out),
+    }
 }
 
 // What a reading answered.
-fn read(t: Time, at: usize, out: &mut [u8; ROOM]) -> usize {
+fn read(t: Time, out: &mut Vec<u8>) -> Result<(), AllocError> {
     match t {
-        Time::At(time) => text::field(text::accepted(at, out), time, out),
-        Time::Refused(why) => text::refused(at, why, out),
+        Time::At(time) => {
+            text::accepted(out)?;
+            text::field(time, out)
+        }
+        Time::Refused(why) => text::refused(why, out),
     }
 }
 
 // Shows a clock, and ends the line.
-fn shown(c: Clock, at: usize, out: &mut [u8; ROOM]) -> usize {
-    let n = match c {
+fn shown(c: Clock, out: &mut Vec<u8>) -> Result<(), AllocError> {
+    match c {
         Clock::Running { base, start } => {
-            let m = text::field(text::bytes(at, b" | r", out), base, out);
-            text::field(m, start, out)
+            text::bytes(b" | r", out)?;
+            text::field(base, out)?;
+            text::field(start, out)?;
         }
-        Clock::Paused { base } => text::field(text::bytes(at, b" | p", out), base, out),
-    };
-    text::end(n, out)
+        Clock::Paused { base } => {
+            text::bytes(b" | p", out)?;
+            text::field(base, out)?;
+        }
+    }
+    text::end(out)
 }

@@ -1,176 +1,147 @@
 // The calls on a heap alone, and the lines that tell of them.
 use crate::record::Record;
 use crate::text;
-use crate::text::ROOM;
 use heap::{
     AfterPush, AfterRemove, Entry, Heap, Peeked, Place, Pushed, Removed, SlabSlot, Slot, SlotState,
 };
-
-// What is kept after a record: the heap, and how many bytes of text are gathered.
-#[derive(Clone, Copy)]
-pub struct Kept {
-    pub heap: Heap,
-    pub at: usize,
-}
+use std::alloc::AllocError;
 
 // Makes the call of a record on a heap and tells of it.
-pub fn told(h: Heap, r: Record, at: usize, out: &mut [u8; ROOM]) -> Kept {
+pub fn told(h: &mut Heap, r: Record, out: &mut Vec<u8>) -> Result<(), AllocError> {
     if 20 < r.op {
-        return Kept {
-            heap: h,
-            at: text::unknown(at, out),
-        };
+        return text::unknown(out);
     }
-    let k = made(h, r, text::number(at, r.op as u64, out), out);
-    let g = k.heap;
-    Kept {
-        heap: g,
-        at: shown(g, k.at, out),
-    }
+    text::number(r.op as u64, out)?;
+    made(h, r, out)?;
+    shown(h, out)
 }
 
 // Makes the call of a record, 16 to 20, and puts what it answers.
-fn made(h: Heap, r: Record, at: usize, out: &mut [u8; ROOM]) -> Kept {
-    let op = r.op;
-    match op {
-        16 => pushed(heap::push(h, r.a, 0, Place(0)), at, out),
-        17 => removed(heap::remove(h, Slot(r.place)), at, out),
-        18 => popped(heap::pop(h), at, out),
-        19 => Kept {
-            heap: h,
-            at: peeked(heap::peek(h), at, out),
-        },
-        _ => Kept {
-            heap: h,
-            at: tested(heap::consistent(h), at, out),
-        },
+fn made(h: &mut Heap, r: Record, out: &mut Vec<u8>) -> Result<(), AllocError> {
+    match r.op {
+        16 => pushed(h, heap::push(*h, r.a, 0, Place(0)), out),
+        17 => removed(h, heap::remove(*h, Slot(r.place)), out),
+        18 => popped(h, heap::pop(*h), out),
+        19 => peeked(heap::peek(*h), out),
+        _ => tested(heap::consistent(*h), out),
     }
 }
 
-// What a push answered: the slot and the swaps.
-fn pushed(a: AfterPush, at: usize, out: &mut [u8; ROOM]) -> Kept {
-    let answer = a.answer;
-    let n = match answer {
+// Takes over the heap that a push left, and puts what it answered: the slot and the swaps.
+fn pushed(h: &mut Heap, after: AfterPush, out: &mut Vec<u8>) -> Result<(), AllocError> {
+    *h = after.heap;
+    match after.answer {
         Pushed::Done { slot, swaps } => {
-            let m = text::field(text::accepted(at, out), slot.0 as u64, out);
-            text::field(m, swaps as u64, out)
+            text::accepted(out)?;
+            text::field(slot.0 as u64, out)?;
+            text::field(swaps as u64, out)
         }
-        Pushed::Refused(why) => text::refused(at, why, out),
-    };
-    let g = a.heap;
-    Kept { heap: g, at: n }
+        Pushed::Refused(why) => text::refused(why, out),
+    }
 }
 
-// What a removal by slot answered: the deadline and the swaps.
-fn removed(a: AfterRemove, at: usize, out: &mut [u8; ROOM]) -> Kept {
-    let answer = a.answer;
-    let n = match answer {
+// Takes over the heap that a removal by slot left, and puts what it answered: the deadline and the swaps.
+fn removed(h: &mut Heap, after: AfterRemove, out: &mut Vec<u8>) -> Result<(), AllocError> {
+    *h = after.heap;
+    match after.answer {
         Removed::Done { entry, swaps } => {
-            let m = text::field(text::accepted(at, out), entry.at, out);
-            text::field(m, swaps as u64, out)
+            text::accepted(out)?;
+            text::field(entry.at, out)?;
+            text::field(swaps as u64, out)
         }
-        Removed::Nothing => nothing(at, out),
-        Removed::Refused(why) => text::refused(at, why, out),
-    };
-    let g = a.heap;
-    Kept { heap: g, at: n }
+        Removed::Nothing => nothing(out),
+        Removed::Refused(why) => text::refused(why, out),
+    }
 }
 
-// What a pop answered: the deadline, the slot and the swaps, or nothing.
-fn popped(a: AfterRemove, at: usize, out: &mut [u8; ROOM]) -> Kept {
-    let answer = a.answer;
-    let n = match answer {
-        Removed::Done { entry, swaps } => text::field(head(entry, at, out), swaps as u64, out),
-        Removed::Nothing => nothing(at, out),
-        Removed::Refused(why) => text::refused(at, why, out),
-    };
-    let g = a.heap;
-    Kept { heap: g, at: n }
+// Takes over the heap that a pop left, and puts what it answered: the deadline, the slot and the swaps, or nothing.
+fn popped(h: &mut Heap, after: AfterRemove, out: &mut Vec<u8>) -> Result<(), AllocError> {
+    *h = after.heap;
+    match after.answer {
+        Removed::Done { entry, swaps } => {
+            head(entry, out)?;
+            text::field(swaps as u64, out)
+        }
+        Removed::Nothing => nothing(out),
+        Removed::Refused(why) => text::refused(why, out),
+    }
 }
 
 // What a peek answered: the deadline and the slot, or nothing.
-fn peeked(p: Peeked, at: usize, out: &mut [u8; ROOM]) -> usize {
+fn peeked(p: Peeked, out: &mut Vec<u8>) -> Result<(), AllocError> {
     match p {
-        Peeked::Head(entry) => head(entry, at, out),
-        Peeked::Nothing => nothing(at, out),
-        Peeked::Refused(why) => text::refused(at, why, out),
+        Peeked::Head(entry) => head(entry, out),
+        Peeked::Nothing => nothing(out),
+        Peeked::Refused(why) => text::refused(why, out),
     }
 }
 
 // What the heap test answered.
-fn tested(sound: bool, at: usize, out: &mut [u8; ROOM]) -> usize {
-    let n = text::accepted(at, out);
-    if sound {
-        text::field(n, 1, out)
-    } else {
-        text::field(n, 0, out)
-    }
+fn tested(sound: bool, out: &mut Vec<u8>) -> Result<(), AllocError> {
+    text::accepted(out)?;
+    text::field(sound as u64, out)
 }
 
 // The answer with an entry: its deadline and its slot.
-fn head(e: Entry, at: usize, out: &mut [u8; ROOM]) -> usize {
-    let n = text::field(text::accepted(at, out), e.at, out);
-    text::field(n, e.slot.0 as u64, out)
+fn head(e: Entry, out: &mut Vec<u8>) -> Result<(), AllocError> {
+    text::accepted(out)?;
+    text::field(e.at, out)?;
+    text::field(e.slot.0 as u64, out)
 }
 
 // The answer that there is no entry.
-fn nothing(at: usize, out: &mut [u8; ROOM]) -> usize {
-    text::mark(text::accepted(at, out), b'-', out)
+fn nothing(out: &mut Vec<u8>) -> Result<(), AllocError> {
+    text::accepted(out)?;
+    text::mark(b'-', out)
 }
 
 // Shows a heap, and ends the line.
-fn shown(h: Heap, at: usize, out: &mut [u8; ROOM]) -> usize {
-    let n = text::mark(entries(h, false, text::mark(at, b'|', out), out), b'|', out);
-    let m = text::field(text::field(n, h.free.0 as u64, out), h.made as u64, out);
-    text::end(slots(h, m, out), out)
+fn shown(h: &Heap, out: &mut Vec<u8>) -> Result<(), AllocError> {
+    text::mark(b'|', out)?;
+    entries(h, false, out)?;
+    text::mark(b'|', out)?;
+    text::field(h.free.0 as u64, out)?;
+    text::field(h.made as u64, out)?;
+    slots(h, out)?;
+    text::end(out)
 }
 
 // A heap's entries by position, whole or in short.
-pub fn entries(h: Heap, whole: bool, at: usize, out: &mut [u8; ROOM]) -> usize {
-    let mut n = at;
-    let mut i: usize = 0;
-    while i < heap::CAP {
-        if h.len <= i {
-            break;
-        }
-        n = entry(h.entries[i], whole, n, out);
-        i += 1;
+pub fn entries(h: &Heap, whole: bool, out: &mut Vec<u8>) -> Result<(), AllocError> {
+    for e in h.entries.iter().take(h.len) {
+        entry(*e, whole, out)?;
     }
-    n
+    Ok(())
 }
 
 // An entry: its deadline and its slot; a whole one with its generation and its place between them.
-fn entry(e: Entry, whole: bool, at: usize, out: &mut [u8; ROOM]) -> usize {
-    let mut n = text::field(at, e.at, out);
+fn entry(e: Entry, whole: bool, out: &mut Vec<u8>) -> Result<(), AllocError> {
+    text::field(e.at, out)?;
     if whole {
-        n = text::part(
-            text::part(n, e.generation as u64, out),
-            e.place.0 as u64,
-            out,
-        );
+        text::part(e.generation as u64, out)?;
+        text::part(e.place.0 as u64, out)?;
     }
-    text::part(n, e.slot.0 as u64, out)
+    text::part(e.slot.0 as u64, out)
 }
 
 // The slots that were made.
-fn slots(h: Heap, at: usize, out: &mut [u8; ROOM]) -> usize {
-    let mut n = at;
-    let mut i: usize = 0;
-    while i < heap::CAP {
-        if h.made <= i {
-            break;
-        }
-        n = slot(h.slots[i], n, out);
-        i += 1;
+fn slots(h: &Heap, out: &mut Vec<u8>) -> Result<(), AllocError> {
+    for s in h.slots.iter().take(h.made) {
+        slot(*s, out)?;
     }
-    n
+    Ok(())
 }
 
 // A slot: a full one with its position, or an empty one with the next free slot.
-fn slot(s: SlabSlot, at: usize, out: &mut [u8; ROOM]) -> usize {
-    let st = s.state;
-    match st {
-        SlotState::Full(pos) => text::number(text::mark(at, b'F', out), pos.0 as u64, out),
-        SlotState::Empty(next) => text::number(text::mark(at, b'E', out), next.0 as u64, out),
+fn slot(s: SlabSlot, out: &mut Vec<u8>) -> Result<(), AllocError> {
+    match s.state {
+        SlotState::Full(pos) => {
+            text::mark(b'F', out)?;
+            text::number(pos.0 as u64, out)
+        }
+        SlotState::Empty(next) => {
+            text::mark(b'E', out)?;
+            text::number(next.0 as u64, out)
+        }
     }
 }

@@ -1,19 +1,28 @@
 // The probe: makes recorded calls on the proved crates and prints what each answers and what it leaves behind, so that a program in
 // Rust that takes the same records can be held against it, line by line. It keeps a set of timers, a heap of its own and a clock.
-// `oracle/FORMAT.md` has the form of a record and of a line.
+// `oracle/FORMAT.md` has the form of a record and of a line. Where a read or a write fails, the probe ends with that error; after a
+// read that failed the lines of all whole records that came before are still written.
 #![tactic(auto)]
+
 mod clocks;
 mod heaps;
 mod record;
 mod sets;
 mod text;
 
+ghost use Rattle.std.specs.Prelude.{◌≤◌, length};
+
 use clock::Clock;
 use heap::Heap;
-use libc::STDIN_FILENO;
 use record::Record;
 use state::Set;
+use std::alloc::{AllocError, Global};
+use std::io;
+use std::io::{Read, Write};
 use text::ROOM;
+
+// How many bytes are read at a time, in whole records.
+const PIECE: usize = 65_536;
 
 // What the calls are made on.
 #[derive(Clone, Copy)]
@@ -23,136 +32,110 @@ struct World {
     clock: Clock,
 }
 
-// The world after some records, and how many bytes of text are gathered then.
-#[derive(Clone, Copy)]
-struct After {
-    world: World,
-    at: usize,
-}
-
-// The same after a piece of the input, and whether there may be more to read.
-#[derive(Clone, Copy)]
-struct Pass {
-    world: World,
-    at: usize,
-    more: bool,
-}
-
 // The world at the start, and after the record that begins anew.
 fn fresh() -> World {
-    let s = state::fresh();
-    let h = heap::fresh();
-    let c = clock::fresh(0);
     World {
-        set: s,
-        heap: h,
-        clock: c,
+        set: state::fresh(),
+        heap: heap::fresh(),
+        clock: clock::fresh(0),
     }
 }
 
 // A record for the set of timers.
-fn on_set(w: World, r: Record, at: usize, out: &mut [u8; ROOM]) -> After {
-    let s = w.set;
-    let t = sets::told(s, r, at, out);
-    let g = t.set;
-    let mut v = w;
-    v.set = g;
-    After { world: v, at: t.at }
+fn on_set(w: &mut World, r: Record, out: &mut Vec<u8>) -> Result<(), AllocError> {
+    sets::told(&mut w.set, r, out)
 }
 
 // A record for the heap alone.
-fn on_heap(w: World, r: Record, at: usize, out: &mut [u8; ROOM]) -> After {
-    let h = w.heap;
-    let t = heaps::told(h, r, at, out);
-    let g = t.heap;
-    let mut v = w;
-    v.heap = g;
-    After { world: v, at: t.at }
+fn on_heap(w: &mut World, r: Record, out: &mut Vec<u8>) -> Result<(), AllocError> {
+    heaps::told(&mut w.heap, r, out)
 }
 
 // A record for the clock alone.
-fn on_clock(w: World, r: Record, at: usize, out: &mut [u8; ROOM]) -> After {
-    let c = w.clock;
-    let t = clocks::told(c, r, at, out);
-    let d = t.clock;
-    let s = w.set;
-    let h = w.heap;
-    After {
-        world: World {
-            set: s,
-            heap: h,
-            clock: d,
-        },
-        at: t.at,
-    }
+fn on_clock(w: &mut World, r: Record, out: &mut Vec<u8>) -> Result<(), AllocError> {
+    clocks::told(&mut w.clock, r, out)
 }
 
 // Makes the call of a record and tells of it: 0 to 15 are for the set, 16 to 23 for the heap, the rest for the clock, but 31 begins
 // anew.
-fn step(w: World, r: Record, at: usize, out: &mut [u8; ROOM]) -> After {
-    if r.op < 16 {
-        return on_set(w, r, at, out);
+fn step(w: &mut World, r: Record, out: &mut Vec<u8>) -> Result<(), AllocError> {
+    match r.op {
+        0..=15 => on_set(w, r, out),
+        16..=23 => on_heap(w, r, out),
+        31 => {
+            *w = fresh();
+            text::bytes(b"31 0\n", out)
+        }
+        _ => on_clock(w, r, out),
     }
-    if r.op < 24 {
-        return on_heap(w, r, at, out);
-    }
-    if r.op == 31 {
-        return After {
-            world: fresh(),
-            at: text::bytes(at, b"31 0\n", out),
-        };
-    }
-    on_clock(w, r, at, out)
 }
 
-// Makes the calls of all the whole records in a piece of the input.
-fn steps(w: World, piece: &[u8], at: usize, out: &mut [u8; ROOM]) -> After {
-    let mut world = w;
-    let mut n = at;
+// Makes the calls of all the whole records in a piece of the input, and writes out their lines where enough of them are gathered.
+fn steps<W: Write>(
+    w: &mut World,
+    piece: &[u8],
+    out: &mut Vec<u8>,
+    output: &mut W,
+) -> io::Result<()> {
     let mut rest = piece;
     while record::SIZE <= rest.len() {
-        let a = step(world, record::first(rest), n, out);
-        world = a.world;
-        n = a.at;
+        step(w, record::first(rest), out)?;
+        if ROOM <= out.len() {
+            text::flush(out, output)?;
+        }
         rest = &rest[record::SIZE..];
     }
-    After { world, at: n }
+    Ok(())
 }
 
-// Reads a piece of the input and makes its calls. A piece that is not full is the last, and what it has behind its last whole record
-// is left out.
-fn next_piece(w: World, at: usize, out: &mut [u8; ROOM]) -> Pass {
-    let mut piece = io::large_buffer();
-    let got = io::read_full(STDIN_FILENO, &mut piece);
-    let a = steps(w, &piece[..got], at, out);
-    let v = a.world;
-    Pass {
-        world: v,
-        at: a.at,
-        more: got == piece.len(),
+// Reads until the piece is full, the input ends or a read fails, and answers how many bytes came and whether the reads went well.
+fn read_full<R: Read>(input: &mut R, piece: &mut [u8]) -> (usize, io::Result<()>)
+    ensures { result.0 ≤ length piece.new }
+{
+    let mut came = 0;
+    while came < piece.len() {
+        match input.read(&mut piece[came..]) {
+            Ok(0) => break,
+            Ok(more) => came += more,
+            Err(e) => return (came, Err(e)),
+        }
     }
+    (came, Ok(()))
 }
 
-// Reads to the end of the input, and answers how many bytes of text are left in the buffer. A proved loop has to end and nothing
-// says that the input does, so the turns are counted down from a number that no run uses up.
-fn replay(out: &mut [u8; ROOM]) -> usize {
-    let mut world = fresh();
-    let mut n: usize = 0;
-    let mut turns = u64::MAX;
-    while 0 < turns {
-        let t = next_piece(world, n, out);
-        world = t.world;
-        n = t.at;
-        if !t.more {
+// Reads a piece of the input and makes its calls, and answers whether there may be more to read. A piece that is not full is the
+// last, and what it has behind its last whole record is left out.
+fn next_piece<R: Read, W: Write>(
+    w: &mut World,
+    input: &mut R,
+    out: &mut Vec<u8>,
+    output: &mut W,
+) -> io::Result<bool> {
+    let mut piece = [0u8; PIECE];
+    let (came, read) = read_full(input, &mut piece);
+    steps(w, &piece[..came], out, output)?;
+    if let Err(e) = read {
+        text::flush(out, output)?;
+        return Err(e);
+    }
+    Ok(came == PIECE)
+}
+
+// Reads to the end of the input, and writes out all lines. A proved loop has to end and nothing says that the input does, so the
+// turns are counted, up to a number that no run uses up.
+fn replay<R: Read, W: Write>(alloc: Global, input: &mut R, output: &mut W) -> io::Result<()> {
+    let mut w = fresh();
+    let mut out = Vec::with_capacity(alloc, ROOM)?;
+    for _ in 0..u64::MAX {
+        if !next_piece(&mut w, input, &mut out, output)? {
             break;
         }
-        turns -= 1;
     }
-    n
+    text::flush(&mut out, output)
 }
 
-fn main() {
-    let mut out = [0u8; ROOM];
-    let n = replay(&mut out);
-    text::flush(n, &out);
+fn main(rt: HostRuntime) -> io::Result<()> {
+    let mut input = rt.stdin();
+    let mut output = rt.stdout();
+    replay(rt.alloc(), &mut input, &mut output)
 }

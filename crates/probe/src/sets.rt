@@ -1,12 +1,12 @@
 // The calls on a set of timers, and the lines that tell of them.
 use crate::record::Record;
-use crate::text::ROOM;
 use crate::{heaps, text};
 use heap::Place;
 use interval::Policy;
 use refusals::Refusal;
 use refusals::time::Left;
 use state::{First, Handle, Held, Life, Named, Set, Timer, Waiting};
+use std::alloc::AllocError;
 use timers::left::Least;
 use timers::{After, Call, Reply};
 use word::Polled;
@@ -26,48 +26,38 @@ enum Wish {
     Unknown,
 }
 
-// What is kept after a record: the set, and how many bytes of text are gathered.
-#[derive(Clone, Copy)]
-pub struct Kept {
-    pub set: Set,
-    pub at: usize,
-}
-
 // Makes the call of a record on a set and tells of it.
-pub fn told(s: Set, r: Record, at: usize, out: &mut [u8; ROOM]) -> Kept {
+pub fn told(s: &mut Set, r: Record, out: &mut Vec<u8>) -> Result<(), AllocError> {
     match wish_of(r) {
-        Wish::Call(call) => performed(s, r, call, at, out),
-        Wish::Word { handle, word } => reworded(s, r, handle, word, at, out),
-        Wish::Unknown => Kept {
-            set: s,
-            at: text::unknown(at, out),
-        },
+        Wish::Call(call) => performed(s, r, call, out),
+        Wish::Word { handle, word } => reworded(s, r, handle, word, out),
+        Wish::Unknown => text::unknown(out),
     }
 }
 
 // Makes a call, with a list of the length that an advance asks for, and tells of it.
-fn performed(s: Set, r: Record, call: Call, at: usize, out: &mut [u8; ROOM]) -> Kept {
+fn performed(s: &mut Set, r: Record, call: Call, out: &mut Vec<u8>) -> Result<(), AllocError> {
     let mut list = [0u64; heap::CAP];
-    let a = timers::perform(s, call, &mut list);
-    let reply = a.reply;
-    let n = answer(reply, &list, text::number(at, r.op as u64, out), out);
-    let g = a.set;
-    Kept {
-        set: g,
-        at: shown(g, r.c, n, out),
-    }
+    let a = timers::perform(*s, call, &mut list);
+    *s = a.set;
+    text::number(r.op as u64, out)?;
+    answer(a.reply, &list, out)?;
+    shown(s, r.c, out)
 }
 
 // Gives a live timer another state word, and tells of it.
-fn reworded(s: Set, r: Record, handle: Handle, word: u32, at: usize, out: &mut [u8; ROOM]) -> Kept {
-    let a = with_word(s, handle, word);
-    let reply = a.reply;
-    let n = done(reply, text::number(at, r.op as u64, out), out);
-    let g = a.set;
-    Kept {
-        set: g,
-        at: shown(g, r.c, n, out),
-    }
+fn reworded(
+    s: &mut Set,
+    r: Record,
+    handle: Handle,
+    word: u32,
+    out: &mut Vec<u8>,
+) -> Result<(), AllocError> {
+    let a = with_word(*s, handle, word);
+    *s = a.set;
+    text::number(r.op as u64, out)?;
+    done(a.reply, out)?;
+    shown(s, r.c, out)
 }
 
 // What a record asks.
@@ -169,112 +159,119 @@ fn with_life(t: Timer, life: Life) -> Timer {
 }
 
 // What a call answered.
-fn answer(reply: Reply, list: &[u64; heap::CAP], at: usize, out: &mut [u8; ROOM]) -> usize {
+fn answer(reply: Reply, list: &[u64; heap::CAP], out: &mut Vec<u8>) -> Result<(), AllocError> {
     match reply {
         Reply::Added(handle) => {
-            let n = text::field(text::accepted(at, out), handle.place.0 as u64, out);
-            text::field(n, handle.uses as u64, out)
+            text::accepted(out)?;
+            text::field(handle.place.0 as u64, out)?;
+            text::field(handle.uses as u64, out)
         }
         Reply::Ran { reported, popped } => {
-            let n = text::field(text::accepted(at, out), reported as u64, out);
-            reports(list, reported, text::field(n, popped as u64, out), out)
+            text::accepted(out)?;
+            text::field(reported as u64, out)?;
+            text::field(popped as u64, out)?;
+            reports(list, reported, out)
         }
-        Reply::WakeAt(wake) => text::field(text::accepted(at, out), wake, out),
-        Reply::NoWake => text::mark(text::accepted(at, out), b'-', out),
-        Reply::Found(polled) => found(polled, text::accepted(at, out), out),
-        Reply::Ticked(due) => text::field(text::accepted(at, out), due, out),
-        _ => done(reply, at, out),
+        Reply::WakeAt(wake) => {
+            text::accepted(out)?;
+            text::field(wake, out)
+        }
+        Reply::NoWake => {
+            text::accepted(out)?;
+            text::mark(b'-', out)
+        }
+        Reply::Found(polled) => {
+            text::accepted(out)?;
+            found(polled, out)
+        }
+        Reply::Ticked(due) => {
+            text::accepted(out)?;
+            text::field(due, out)
+        }
+        _ => done(reply, out),
     }
 }
 
 // What a call that answers no values answered.
-fn done(reply: Reply, at: usize, out: &mut [u8; ROOM]) -> usize {
+fn done(reply: Reply, out: &mut Vec<u8>) -> Result<(), AllocError> {
     match reply {
-        Reply::Refused(why) => text::refused(at, why, out),
-        _ => text::accepted(at, out),
+        Reply::Refused(why) => text::refused(why, out),
+        _ => text::accepted(out),
     }
 }
 
 // What a poll found.
-fn found(polled: Polled, at: usize, out: &mut [u8; ROOM]) -> usize {
+fn found(polled: Polled, out: &mut Vec<u8>) -> Result<(), AllocError> {
     match polled {
-        Polled::Pending => text::field(at, 0, out),
-        Polled::Fired => text::field(at, 1, out),
-        Polled::Gone => text::field(at, 2, out),
+        Polled::Pending => text::field(0, out),
+        Polled::Fired => text::field(1, out),
+        Polled::Gone => text::field(2, out),
     }
 }
 
 // The handles that were reported, each as place and use number.
-fn reports(list: &[u64; heap::CAP], reported: usize, at: usize, out: &mut [u8; ROOM]) -> usize {
-    let mut n = at;
-    let mut i: usize = 0;
-    while i < heap::CAP {
-        if reported <= i {
-            break;
-        }
-        n = name(list[i], n, out);
-        i += 1;
+fn reports(list: &[u64; heap::CAP], reported: usize, out: &mut Vec<u8>) -> Result<(), AllocError> {
+    for word in list.iter().take(reported) {
+        name(*word, out)?;
     }
-    n
+    Ok(())
 }
 
 // Whom a word names, as place and use number; a question mark for nobody.
-fn name(word: u64, at: usize, out: &mut [u8; ROOM]) -> usize {
+fn name(word: u64, out: &mut Vec<u8>) -> Result<(), AllocError> {
     match state::handle_of(word) {
-        Named::Nobody => text::mark(at, b'?', out),
+        Named::Nobody => text::mark(b'?', out),
         Named::Handle(handle) => {
-            let n = text::field(at, handle.place.0 as u64, out);
-            text::part(n, handle.uses as u64, out)
+            text::field(handle.place.0 as u64, out)?;
+            text::part(handle.uses as u64, out)
         }
     }
 }
 
 // Shows a set, with how long is left at a reading, and ends the line.
-fn shown(s: Set, reading: u64, at: usize, out: &mut [u8; ROOM]) -> usize {
-    let n = wake(s, text::mark(at, b'|', out), out);
-    let l = least(timers::left::least_left(s, reading), n, out);
-    let m = waiting(s, text::mark(l, b'|', out), out);
-    let k = places(s, reading, text::mark(m, b'|', out), out);
-    let h = s.heap;
-    text::end(heaps::entries(h, true, text::mark(k, b'|', out), out), out)
+fn shown(s: &Set, reading: u64, out: &mut Vec<u8>) -> Result<(), AllocError> {
+    text::mark(b'|', out)?;
+    wake(s, out)?;
+    least(timers::left::least_left(*s, reading), out)?;
+    text::mark(b'|', out)?;
+    waiting(s, out)?;
+    text::mark(b'|', out)?;
+    places(s, reading, out)?;
+    text::mark(b'|', out)?;
+    heaps::entries(&s.heap, true, out)?;
+    text::end(out)
 }
 
 // The next wake.
-fn wake(s: Set, at: usize, out: &mut [u8; ROOM]) -> usize {
-    let a = timers::next_wake(s);
-    let reply = a.reply;
-    match reply {
-        Reply::WakeAt(wake) => text::field(at, wake, out),
-        Reply::NoWake => text::mark(at, b'-', out),
-        _ => text::mark(at, b'?', out),
+fn wake(s: &Set, out: &mut Vec<u8>) -> Result<(), AllocError> {
+    match timers::next_wake(*s).reply {
+        Reply::WakeAt(wake) => text::field(wake, out),
+        Reply::NoWake => text::mark(b'-', out),
+        _ => text::mark(b'?', out),
     }
 }
 
 // The least that is left, or none.
-fn least(l: Least, at: usize, out: &mut [u8; ROOM]) -> usize {
-    let n = text::byte(at, b' ', out);
+fn least(l: Least, out: &mut Vec<u8>) -> Result<(), AllocError> {
+    text::byte(b' ', out)?;
     match l {
-        Least::Nothing => text::byte(n, b'-', out),
-        Least::Nanos(nanos) => text::signed(n, nanos, out),
-        Least::Refused(why) => text::barred(n, why, out),
+        Least::Nothing => text::byte(b'-', out),
+        Least::Nanos(nanos) => text::signed(nanos, out),
+        Least::Refused(why) => text::barred(why, out),
     }
 }
 
 // The waiting list from its head, no longer than there are places.
-fn waiting(s: Set, at: usize, out: &mut [u8; ROOM]) -> usize {
-    let mut n = at;
-    let f = s.first;
-    let mut p = head(f);
-    let mut left = heap::CAP;
-    while p < heap::CAP {
-        if left == 0 {
+fn waiting(s: &Set, out: &mut Vec<u8>) -> Result<(), AllocError> {
+    let mut p = head(s.first);
+    for _ in 0..heap::CAP {
+        if heap::CAP <= p {
             break;
         }
-        n = text::field(n, p as u64, out);
+        text::field(p as u64, out)?;
         p = next(s.timers[p]);
-        left -= 1;
     }
-    n
+    Ok(())
 }
 
 // The place at the head of the list, or the number of places where there is none.
@@ -287,8 +284,7 @@ fn head(f: First) -> usize {
 
 // The place after a timer in the list, or the number of places where there is none.
 fn next(t: Timer) -> usize {
-    let w = t.waiting;
-    match w {
+    match t.waiting {
         Waiting::No => heap::CAP,
         Waiting::Last => heap::CAP,
         Waiting::Before(place) => place.0 as usize,
@@ -296,70 +292,68 @@ fn next(t: Timer) -> usize {
 }
 
 // The places that are not as in a fresh set, each with how long its timer has to go at a reading.
-fn places(s: Set, reading: u64, at: usize, out: &mut [u8; ROOM]) -> usize {
-    let mut n = at;
-    let mut p: usize = 0;
-    while p < heap::CAP {
+fn places(s: &Set, reading: u64, out: &mut Vec<u8>) -> Result<(), AllocError> {
+    for p in 0..heap::CAP {
         let t = s.timers[p];
         if used(t) {
             let handle = Handle {
                 place: Place(p as u16),
                 uses: t.uses,
             };
-            n = place(p as u64, t, n, out);
-            n = left(timers::left::time_left(s, handle, reading), n, out);
+            place(p as u64, t, out)?;
+            left(timers::left::time_left(*s, handle, reading), out)?;
         }
-        p += 1;
     }
-    n
+    Ok(())
 }
 
 // Whether a place is not as in a fresh set.
 fn used(t: Timer) -> bool {
-    let l = t.life;
-    if let Life::Free = l {
+    if let Life::Free = t.life {
         return t.uses != 0;
     }
     true
 }
 
 // A place: its number, its use number, whose it is, the state word, the deadline and the slot.
-fn place(p: u64, t: Timer, at: usize, out: &mut [u8; ROOM]) -> usize {
-    let l = t.life;
-    let h = t.held;
-    let n = text::part(text::field(at, p, out), t.uses as u64, out);
-    held(h, life(l, n, out), out)
+fn place(p: u64, t: Timer, out: &mut Vec<u8>) -> Result<(), AllocError> {
+    text::field(p, out)?;
+    text::part(t.uses as u64, out)?;
+    life(t.life, out)?;
+    held(t.held, out)
 }
 
 // How long a timer has to go.
-fn left(l: Left, at: usize, out: &mut [u8; ROOM]) -> usize {
-    let n = text::byte(at, b':', out);
+fn left(l: Left, out: &mut Vec<u8>) -> Result<(), AllocError> {
+    text::byte(b':', out)?;
     match l {
-        Left::Nanos(nanos) => text::signed(n, nanos, out),
-        Left::Refused(why) => text::barred(n, why, out),
+        Left::Nanos(nanos) => text::signed(nanos, out),
+        Left::Refused(why) => text::barred(why, out),
     }
 }
 
 // Whose a place is, with the state word and the deadline.
-fn life(l: Life, at: usize, out: &mut [u8; ROOM]) -> usize {
+fn life(l: Life, out: &mut Vec<u8>) -> Result<(), AllocError> {
     match l {
-        Life::Free => text::bytes(at, b":F:-:-", out),
+        Life::Free => text::bytes(b":F:-:-", out),
         Life::Live { word, due } => {
-            let n = text::part(text::bytes(at, b":L", out), word as u64, out);
-            text::part(n, due, out)
+            text::bytes(b":L", out)?;
+            text::part(word as u64, out)?;
+            text::part(due, out)
         }
         Life::Cancelled { word } => {
-            let n = text::part(text::bytes(at, b":C", out), word as u64, out);
-            text::bytes(n, b":-", out)
+            text::bytes(b":C", out)?;
+            text::part(word as u64, out)?;
+            text::bytes(b":-", out)
         }
-        Life::Retired => text::bytes(at, b":R:-:-", out),
+        Life::Retired => text::bytes(b":R:-:-", out),
     }
 }
 
 // The slot of a timer's entry.
-fn held(h: Held, at: usize, out: &mut [u8; ROOM]) -> usize {
+fn held(h: Held, out: &mut Vec<u8>) -> Result<(), AllocError> {
     match h {
-        Held::Nothing => text::bytes(at, b":-", out),
-        Held::At(slot) => text::part(at, slot.0 as u64, out),
+        Held::Nothing => text::bytes(b":-", out),
+        Held::At(slot) => text::part(slot.0 as u64, out),
     }
 }

@@ -1,97 +1,83 @@
-// The text that goes to standard output, gathered in a buffer that is lent. What is put goes behind the first `at` bytes of the
-// buffer, and the answer is how many of them are taken then. A full buffer is written out first.
-use libc::STDOUT_FILENO;
+// The text that goes to standard output. It is gathered in a buffer, and written out between two lines where there is enough of it.
+// Each function puts something behind all that was put before, and fails where there is no memory for it.
+use itoa::Buffer;
 use refusals::Refusal;
+use std::alloc::AllocError;
+use std::io;
+use std::io::Write;
 
 // How many bytes are gathered before they are written.
 pub const ROOM: usize = 65_536;
 
 // Puts a byte.
-pub fn byte(at: usize, b: u8, out: &mut [u8; ROOM]) -> usize {
-    if at < ROOM {
-        out[at] = b;
-        return at + 1;
-    }
-    io::write_all(STDOUT_FILENO, out);
-    out[0] = b;
-    1
+pub fn byte(b: u8, out: &mut Vec<u8>) -> Result<(), AllocError> {
+    out.push(b)?;
+    Ok(())
 }
 
 // Puts some bytes.
-pub fn bytes(at: usize, s: &[u8], out: &mut [u8; ROOM]) -> usize {
-    let mut n = at;
-    let mut i: usize = 0;
-    while i < s.len() {
-        n = byte(n, s[i], out);
-        i += 1;
-    }
-    n
+pub fn bytes(s: &[u8], out: &mut Vec<u8>) -> Result<(), AllocError> {
+    out.extend_from_slice(s)
 }
 
 // Puts a number in decimal.
-pub fn number(at: usize, x: u64, out: &mut [u8; ROOM]) -> usize {
-    let mut digits = [0u8; 20];
-    let k = io::decimal(x, &mut digits);
-    bytes(at, &digits[..k], out)
+pub fn number(x: u64, out: &mut Vec<u8>) -> Result<(), AllocError> {
+    let mut digits = Buffer::new();
+    bytes(digits.format(x).as_bytes(), out)
 }
 
 // Puts a signed number in decimal.
-pub fn signed(at: usize, x: i64, out: &mut [u8; ROOM]) -> usize {
-    let mut n = at;
-    if x < 0 {
-        n = byte(n, b'-', out);
-    }
-    number(n, refusals::time::size(x), out)
+pub fn signed(x: i64, out: &mut Vec<u8>) -> Result<(), AllocError> {
+    let mut digits = Buffer::new();
+    bytes(digits.format(x).as_bytes(), out)
 }
 
 // Puts a blank and a byte.
-pub fn mark(at: usize, b: u8, out: &mut [u8; ROOM]) -> usize {
-    byte(byte(at, b' ', out), b, out)
+pub fn mark(b: u8, out: &mut Vec<u8>) -> Result<(), AllocError> {
+    bytes(&[b' ', b], out)
 }
 
 // Puts a blank and a number.
-pub fn field(at: usize, x: u64, out: &mut [u8; ROOM]) -> usize {
-    number(byte(at, b' ', out), x, out)
+pub fn field(x: u64, out: &mut Vec<u8>) -> Result<(), AllocError> {
+    byte(b' ', out)?;
+    number(x, out)
 }
 
 // Puts a colon and a number.
-pub fn part(at: usize, x: u64, out: &mut [u8; ROOM]) -> usize {
-    number(byte(at, b':', out), x, out)
+pub fn part(x: u64, out: &mut Vec<u8>) -> Result<(), AllocError> {
+    byte(b':', out)?;
+    number(x, out)
 }
 
 // Puts a blank and the number that says that a call was accepted.
-pub fn accepted(at: usize, out: &mut [u8; ROOM]) -> usize {
-    field(at, 0, out)
+pub fn accepted(out: &mut Vec<u8>) -> Result<(), AllocError> {
+    field(0, out)
 }
 
 // Puts a blank and the number of a refusal.
-pub fn refused(at: usize, why: Refusal, out: &mut [u8; ROOM]) -> usize {
-    field(at, refusals::number(why) as u64, out)
+pub fn refused(why: Refusal, out: &mut Vec<u8>) -> Result<(), AllocError> {
+    field(refusals::number(why) as u64, out)
 }
 
 // Puts an exclamation mark and the number of a refusal.
-pub fn barred(at: usize, why: Refusal, out: &mut [u8; ROOM]) -> usize {
-    number(byte(at, b'!', out), refusals::number(why) as u64, out)
+pub fn barred(why: Refusal, out: &mut Vec<u8>) -> Result<(), AllocError> {
+    byte(b'!', out)?;
+    number(refusals::number(why) as u64, out)
 }
 
 // Ends the line.
-pub fn end(at: usize, out: &mut [u8; ROOM]) -> usize {
-    byte(at, b'\n', out)
+pub fn end(out: &mut Vec<u8>) -> Result<(), AllocError> {
+    byte(b'\n', out)
 }
 
 // The line of a record that asks for no call that there is.
-pub fn unknown(at: usize, out: &mut [u8; ROOM]) -> usize {
-    end(byte(at, b'?', out), out)
+pub fn unknown(out: &mut Vec<u8>) -> Result<(), AllocError> {
+    bytes(b"?\n", out)
 }
 
 // Writes out what is gathered.
-pub fn flush(at: usize, out: &[u8; ROOM]) {
-    write_start(at, out);
-}
-
-// Writes the first bytes of some, which are at most as many as there are.
-fn write_start(n: usize, s: &[u8]) {
-    if n <= s.len() {
-        io::write_all(STDOUT_FILENO, &s[0..n]);
-    }
+pub fn flush<W: Write>(out: &mut Vec<u8>, output: &mut W) -> io::Result<()> {
+    output.write_all(out)?;
+    out.clear();
+    Ok(())
 }

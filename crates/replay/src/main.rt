@@ -1,12 +1,14 @@
 // Replays a session: records of 14 bytes from standard input, in whatever pieces they come, on a fresh set of timers. It prints how many
 // timers a set has, one line for each record, and `end`, or `end short` where the input ends inside a record. Where a read fails the
-// last line is `failed read`; where a write fails nothing more is written. So an output that does not end in one of the first two is
-// not whole.
+// last line is `failed read`; where a write fails nothing more is written, and the program ends with that error. So an output that does
+// not end in one of the first two is not whole.
 #![tactic(auto)]
+
 use heap::CAP;
-use libc::{STDIN_FILENO, STDOUT_FILENO};
 use records::LINE;
 use state::Set;
+use std::io;
+use std::io::{Read, Write};
 
 // Why a replay stops, or that it goes on.
 #[derive(Clone, Copy)]
@@ -15,7 +17,6 @@ enum Course {
     Ended,
     EndedShort,
     FailedRead,
-    FailedWrite,
 }
 
 // A record, how many of its bytes came, and whether a read failed before the others did.
@@ -26,27 +27,20 @@ struct Record {
     failed: bool,
 }
 
-// A set, and whether the replay goes on from it.
-#[derive(Clone, Copy)]
-struct Pass {
-    set: Set,
-    course: Course,
-}
-
 // Reads one record, in the pieces in which it comes.
-fn read_record() -> Record {
+fn read_record<R: Read>(input: &mut R) -> Record {
     let mut bytes = [0u8; 14];
     let mut came = 0;
     let mut failed = false;
     while came < 14 {
-        let rest = &mut bytes[came..];
-        let got = libc::read(STDIN_FILENO, rest);
-        let more = io::count(got, rest);
-        if more == 0 {
-            failed = got < 0;
-            break;
+        match input.read(&mut bytes[came..]) {
+            Ok(0) => break,
+            Ok(more) => came += more,
+            Err(_) => {
+                failed = true;
+                break;
+            }
         }
-        came += more;
     }
     Record {
         bytes,
@@ -68,82 +62,58 @@ fn stopped(came: usize, failed: bool) -> Course {
 }
 
 // Answers one record with its line.
-fn answered(s: Set, bytes: [u8; 14]) -> Pass {
+fn answered<W: Write>(s: &mut Set, bytes: [u8; 14], output: &mut W) -> io::Result<()> {
     let mut list = [0u64; CAP];
-    let a = records::replay(s, bytes, &mut list);
-    let told = a.line;
+    let a = records::replay(*s, bytes, &mut list);
+    *s = a.set;
     let mut line = [0u8; LINE];
-    let n = records::write_line(told, &list, &mut line);
-    let set = a.set;
-    if io::write_all(STDOUT_FILENO, &line[..n]) {
-        Pass {
-            set,
-            course: Course::GoesOn,
-        }
-    } else {
-        Pass {
-            set,
-            course: Course::FailedWrite,
-        }
-    }
+    let n = records::write_line(a.line, &list, &mut line);
+    output.write_all(&line[..n])
 }
 
 // Reads one record, and answers it where it came whole.
-fn passed(s: Set) -> Pass {
-    let r = read_record();
-    let came = r.came;
-    if came < 14 {
-        let course = stopped(came, r.failed);
-        return Pass { set: s, course };
+fn passed<R: Read, W: Write>(s: &mut Set, input: &mut R, output: &mut W) -> io::Result<Course> {
+    let r = read_record(input);
+    if r.came < 14 {
+        return Ok(stopped(r.came, r.failed));
     }
-    let bytes = r.bytes;
-    answered(s, bytes)
+    answered(s, r.bytes, output)?;
+    Ok(Course::GoesOn)
 }
 
 // Replays all records, and answers why it stopped. A proved loop has to end, and nothing says that the input does; so it counts its
-// turns down, from a number that no input uses up.
-fn replayed() -> Course {
+// turns, up to a number that no input uses up.
+fn replayed<R: Read, W: Write>(input: &mut R, output: &mut W) -> io::Result<Course> {
     let mut s = state::fresh();
-    let mut turns = u64::MAX;
-    let mut course = Course::GoesOn;
-    while turns > 0 {
-        let p = passed(s);
-        s = p.set;
-        course = p.course;
+    for _ in 0..u64::MAX {
+        let course = passed(&mut s, input, output)?;
         match course {
             Course::GoesOn => {}
-            _ => break,
+            _ => return Ok(course),
         }
-        turns -= 1;
     }
-    course
+    Ok(Course::GoesOn)
 }
 
-// Writes the first line, and answers whether it could be written.
-fn began() -> bool {
-    io::write_all(STDOUT_FILENO, b"timers ")
-        && io::print_decimal(STDOUT_FILENO, CAP as u64)
-        && io::write_all(STDOUT_FILENO, b"\n")
+// Writes the first line.
+fn began<W: Write>(output: &mut W) -> io::Result<()> {
+    writeln!(output, "timers {CAP}")
 }
 
 // Writes the last line, where there is one to write.
-fn concluded(course: Course) {
+fn concluded<W: Write>(course: Course, output: &mut W) -> io::Result<()> {
     match course {
-        Course::Ended => {
-            io::write_all(STDOUT_FILENO, b"end\n");
-        }
-        Course::EndedShort => {
-            io::write_all(STDOUT_FILENO, b"end short\n");
-        }
-        Course::FailedRead => {
-            io::write_all(STDOUT_FILENO, b"failed read\n");
-        }
-        _ => {}
+        Course::GoesOn => Ok(()),
+        Course::Ended => output.write_all(b"end\n"),
+        Course::EndedShort => output.write_all(b"end short\n"),
+        Course::FailedRead => output.write_all(b"failed read\n"),
     }
 }
 
-fn main() {
-    if began() {
-        concluded(replayed());
-    }
+fn main(rt: HostRuntime) -> io::Result<()> {
+    let mut input = rt.stdin();
+    let mut output = rt.stdout();
+    began(&mut output)?;
+    let course = replayed(&mut input, &mut output)?;
+    concluded(course, &mut output)
 }
