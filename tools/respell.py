@@ -18,7 +18,7 @@ import re
 import sys
 
 WORD = re.compile(r"[^\s(){}.;,@\"«»`]+")
-DECLARED = re.compile(r"^(?:    )?((?:abbrev |unfoldable |pub )*)(data |record )?([^\s:(){}=]+)\s+(.*)$")
+DECLARED = re.compile(r"^ *((?:abbrev |unfoldable |pub )*)(data |record )?([^\s:(){}=λ,]+)\s+(.*)$")
 MEMBER = re.compile(r"^\s+(?:pub )?([^\s:()=]+) : ")
 IMPORT = re.compile(r"^\s*(?:pub )?use (\S+?)\.\{([^}]*)\}", re.M)
 
@@ -55,12 +55,12 @@ def declared():
     for path in antt_files():
         inside = False
         for line in open(path, encoding="utf-8"):
-            if line.startswith(("--", "use ", "pub use", "mod ", "pub mod")):
+            if line.startswith(("--", "use ", "pub use ", "mod ", "pub mod ")):
                 continue
             m = DECLARED.match(line)
             if m and not (line.startswith(" ") and inside):
                 inside = bool(m[2])
-                if m[2] or (m[4].startswith(":") and not re.match(r":.*\btie\.", m[4])):
+                if m[2] or (m[4].startswith(": ") and not re.match(r":.*\b(tie|goal)\.", m[4])):
                     found.setdefault(m[3], "definition" if "abbrev" in m[1] or "unfoldable" in m[1] else "lemma")
                 continue
             if line.strip() and not line.startswith(" "):
@@ -84,7 +84,7 @@ def table():
         if name.startswith(("+", "μ")):
             continue
         rows[name] = FIELDS.get(name) or snake(name)
-    taken = {new for old, new in rows.items() if old != new and "-" not in old} | set(TURNED)
+    taken = {rows[name] for name, kind in found.items() if kind == "definition" and name in rows} | set(TURNED)
     for name, new in rows.items():
         if "-" in name and new in taken and found[name] == "lemma":
             rows[name] = new + "_lem"

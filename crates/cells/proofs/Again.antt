@@ -74,9 +74,9 @@ state_small (Full p) h = omega arith
 state_small (Empty n) h = omega arith
 
 module _ {l : List ℕ} {i : ℕ} where
-  pub header-again : (h : Header) → HeaderIn h → Stands l i (header_bytes h) → Again (header_clear l i) (header_in l i) (header_of l i) h
+  pub header_again : (h : Header) → HeaderIn h → Stands l i (header_bytes h) → Again (header_clear l i) (header_in l i) (header_of l i) h
   unfolding header_bytes header_of header_clear header_in
-  header-again h v s0 =
+  header_again h v s0 =
       let m = marks_of h in
       let f = first_parts h.first in
       let t5 = digits 2 h.free.0 in
@@ -116,9 +116,9 @@ module _ {l : List ℕ} {i : ℕ} where
         again = λ k. record { closed = shut k; first = head k; len = n3 k; made = n4 k; free = record { 0 = n5 k } };
       }
 
-  pub entry-again : (e : Entry) → EntryIn e → Stands l i (entry_bytes e) → Again (entry_clear l i) (entry_in l i) (entry_of l i) e
+  pub entry_again : (e : Entry) → EntryIn e → Stands l i (entry_bytes e) → Again (entry_clear l i) (entry_in l i) (entry_of l i) e
   unfolding entry_bytes entry_of entry_clear entry_in
-  entry-again e h s0 =
+  entry_again e h s0 =
       let t3 = digits 1 e.slot.0 in
       let t2 = digits 1 e.place.0 ++ t3 in
       let t1 = digits 4 e.generation ++ t2 in
@@ -135,17 +135,17 @@ module _ {l : List ℕ} {i : ℕ} where
         again = λ k. record { at = a k; generation = g k; place = record { 0 = p k }; slot = record { 0 = q k } };
       }
 
-  pub slot-again : (s : SlabSlot) → StateIn s.state → Stands l i (slot_bytes s) → Again (slot_clear l i) (slot_in l i) (slot_of l i) s
+  pub slot_again : (s : SlabSlot) → StateIn s.state → Stands l i (slot_bytes s) → Again (slot_clear l i) (slot_in l i) (slot_of l i) s
   unfolding slot_bytes slot_of slot_clear slot_in
-  slot-again s h t =
+  slot_again s h t =
       let n : value_at 2 l i ≡ slot_number s.state = value_digits 2 (slot_number s.state) (state_small s.state h) t in
       let a = state_again s.state h in
       let e : state_from (value_at 2 l i / 32768) (value_at 2 l i % 512) ≡ s.state = (λ k. state_from (n k / 32768) (n k % 512)) ∙ a.again in
       record { clear = ap slot_spare n ∙ a.clear; within = ap slot_range n ∙ a.within; again = λ k. record { state = e k } }
 
-  pub timer-again : (t : Timer) → TimerIn t → Stands l i (timer_bytes t) → Again (timer_clear l i) (timer_in l i) (timer_of l i) t
+  pub timer_again : (t : Timer) → TimerIn t → Stands l i (timer_bytes t) → Again (timer_clear l i) (timer_in l i) (timer_of l i) t
   unfolding timer_bytes timer_of timer_clear timer_in
-  timer-again t h s0 =
+  timer_again t h s0 =
       let f = life_parts t.life in
       let b = waiting_parts t.waiting in
       let o = held_parts t.held in

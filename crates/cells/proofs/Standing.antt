@@ -10,7 +10,7 @@ use Rattle.theory.specs.Tests.{bit}
 use Rattle.theory.proofs.Tests.{ref_true}
 use Rattle.heap.specs.Capacity.{cap}
 use Rattle.digits.specs.Digits.{value_at, Bytes, Stands}
-use Rattle.digits.proofs.Digits.{value_small, digits_value, digits_as, with-behind}
+use Rattle.digits.proofs.Digits.{value_small, digits_value, digits_as, with_behind}
 use Rattle.cells.specs.declared.parts.LifeParts.{LifeParts}
 use Rattle.cells.specs.declared.parts.Part.{Part}
 use Rattle.cells.specs.Parts.{slot_number, state_from, life_parts, life_from, waiting_parts, waiting_from, held_parts, held_from, first_parts, first_from}
@@ -36,35 +36,35 @@ tags_parts t h e f =
     (w, omega arith)
 
 module _ (l : List ℕ) (b : Bytes l) (i : ℕ) where
-  pub entry-stands : Stands l i (entry_bytes (entry_of l i))
+  pub entry_stands : Stands l i (entry_bytes (entry_of l i))
   unfolding entry_bytes entry_of
-  entry-stands =
-      with-behind 8 (value_at 8 l i) (i + 8) _ refl (digits_value l b 8 i)
-      (with-behind 4 (value_at 4 l (i + 8)) (i + 12) _ (omega arith) (digits_value l b 4 (i + 8))
-      (with-behind 1 (value_at 1 l (i + 12)) (i + 13) _ (omega arith) (digits_value l b 1 (i + 12)) (digits_value l b 1 (i + 13))))
+  entry_stands =
+      with_behind 8 (value_at 8 l i) (i + 8) _ refl (digits_value l b 8 i)
+      (with_behind 4 (value_at 4 l (i + 8)) (i + 12) _ (omega arith) (digits_value l b 4 (i + 8))
+      (with_behind 1 (value_at 1 l (i + 12)) (i + 13) _ (omega arith) (digits_value l b 1 (i + 12)) (digits_value l b 1 (i + 13))))
 
-  pub entry-fits : entry_clear l i ≡ true → entry_in l i ≡ true → EntryIn (entry_of l i)
+  pub entry_fits_lem : entry_clear l i ≡ true → entry_in l i ≡ true → EntryIn (entry_of l i)
   unfolding entry_clear entry_in entry_of
-  entry-fits c r =
+  entry_fits_lem c r =
       let g : value_at 4 l (i + 8) / 2 ^ 30 ≡ 0 = ref_true (entry_spare_lem (value_at 4 l (i + 8))) c in
       let q = ref_true (entry_range_lem (value_at 1 l (i + 12)) (value_at 1 l (i + 13))) r in
       record { at_in = value_small l b 8 i; generation_in = omega arith; place_in = q.0; slot_in_range = q.1 }
 
-  pub slot-stands : slot_clear l i ≡ true → Stands l i (slot_bytes (slot_of l i))
+  pub slot_stands : slot_clear l i ≡ true → Stands l i (slot_bytes (slot_of l i))
   unfolding slot_clear slot_bytes slot_of
-  slot-stands c =
+  slot_stands c =
       let n = value_at 2 l i in
       let q = slot_parts n (value_small l b 2 i) (ref_true (slot_spare_lem n) c) in
       digits_as l b 2 i (slot_number (state_from (n / 32768) (n % 512))) (state_back (n / 32768) (n % 512) q.0 ∙ q.1)
 
-  pub slot-fits : slot_in l i ≡ true → StateIn (slot_of l i).state
+  pub slot_fits : slot_in l i ≡ true → StateIn (slot_of l i).state
   unfolding slot_in slot_of
-  slot-fits r = let q = ref_true (slot_range_lem (value_at 2 l i)) r in state_in (value_at 2 l i / 32768) (value_at 2 l i % 512) q.0 q.1
+  slot_fits r = let q = ref_true (slot_range_lem (value_at 2 l i)) r in state_in (value_at 2 l i / 32768) (value_at 2 l i % 512) q.0 q.1
 
   -- what a header holds
-  pub header-stands : header_clear l i ≡ true → header_in l i ≡ true → Stands l i (header_bytes (header_of l i))
+  pub header_stands : header_clear l i ≡ true → header_in l i ≡ true → Stands l i (header_bytes (header_of l i))
   unfolding header_clear header_in header_bytes header_of
-  header-stands c r =
+  header_stands c r =
       let m = value_at 1 l (i + 1) in
       let p = value_at 1 l (i + 2) in
       let x = ref_true (header_spare_lem m p (value_at 2 l (i + 3)) (value_at 2 l (i + 5)) (value_at 2 l (i + 7))) c in
@@ -75,15 +75,15 @@ module _ (l : List ℕ) (b : Bytes l) (i : ℕ) where
       let k : bit (eqb (m / 2 % 2) 1) * 2 + (first_parts (first_from (m % 2) p)).tag ≡ m =
       (λ j. e j * 2 + (f j).tag) ∙ marks_parts m x.0.0.0.0
       in
-      with-behind 1 1 (i + 1) _ refl (digits_as l b 1 i 1 (sym y.0.0.0.0))
-      (with-behind 1 (bit (eqb (m / 2 % 2) 1) * 2 + (first_parts (first_from (m % 2) p)).tag) (i + 2) _ (omega arith) (digits_as l b 1 (i + 1) _ k)
-      (with-behind 1 (first_parts (first_from (m % 2) p)).number (i + 3) _ (omega arith) (digits_as l b 1 (i + 2) _ (ap (λ (q : Part). q.number) f))
-      (with-behind 2 (value_at 2 l (i + 3)) (i + 5) _ (omega arith) (digits_value l b 2 (i + 3))
-      (with-behind 2 (value_at 2 l (i + 5)) (i + 7) _ (omega arith) (digits_value l b 2 (i + 5)) (digits_value l b 2 (i + 7))))))
+      with_behind 1 1 (i + 1) _ refl (digits_as l b 1 i 1 (sym y.0.0.0.0))
+      (with_behind 1 (bit (eqb (m / 2 % 2) 1) * 2 + (first_parts (first_from (m % 2) p)).tag) (i + 2) _ (omega arith) (digits_as l b 1 (i + 1) _ k)
+      (with_behind 1 (first_parts (first_from (m % 2) p)).number (i + 3) _ (omega arith) (digits_as l b 1 (i + 2) _ (ap (λ (q : Part). q.number) f))
+      (with_behind 2 (value_at 2 l (i + 3)) (i + 5) _ (omega arith) (digits_value l b 2 (i + 3))
+      (with_behind 2 (value_at 2 l (i + 5)) (i + 7) _ (omega arith) (digits_value l b 2 (i + 5)) (digits_value l b 2 (i + 7))))))
 
-  pub header-fits : header_clear l i ≡ true → header_in l i ≡ true → HeaderIn (header_of l i)
+  pub header_fits : header_clear l i ≡ true → header_in l i ≡ true → HeaderIn (header_of l i)
   unfolding header_clear header_in header_of
-  header-fits c r =
+  header_fits c r =
       let m = value_at 1 l (i + 1) in
       let p = value_at 1 l (i + 2) in
       let x = ref_true (header_spare_lem m p (value_at 2 l (i + 3)) (value_at 2 l (i + 5)) (value_at 2 l (i + 7))) c in
@@ -132,24 +132,24 @@ module _ (l : List ℕ) (b : Bytes l) (i : ℕ) where
         slot_in_range = y.1;
       }
 
-  pub timer-stands : timer_clear l i ≡ true → timer_in l i ≡ true → Stands l i (timer_bytes (timer_of l i))
+  pub timer_stands : timer_clear l i ≡ true → timer_in l i ≡ true → Stands l i (timer_bytes (timer_of l i))
   unfolding timer_bytes timer_of
-  timer-stands c r =
+  timer_stands c r =
       let v = parts c r in
       let la = v.lives in
       let wa = v.waits in
       let ha = v.holds_slot in
       let k : _ ≡ value_at 1 l i = (λ j. (la j).tag * 64 + (wa j).tag * 4 + (ha j).tag * 2) ∙ v.tags in
-      with-behind 1 _ (i + 1) _ refl (digits_as l b 1 i _ k)
-      (with-behind 1 _ (i + 2) _ (omega arith) (digits_as l b 1 (i + 1) _ (ap (λ (q : Part). q.number) wa))
-      (with-behind 1 _ (i + 3) _ (omega arith) (digits_as l b 1 (i + 2) _ (ap (λ (q : Part). q.number) ha))
-      (with-behind 4 _ (i + 7) _ (omega arith) (digits_value l b 4 (i + 3))
-      (with-behind 4 _ (i + 11) _ (omega arith) (digits_as l b 4 (i + 7) _ (ap (λ (q : LifeParts). q.word) la))
+      with_behind 1 _ (i + 1) _ refl (digits_as l b 1 i _ k)
+      (with_behind 1 _ (i + 2) _ (omega arith) (digits_as l b 1 (i + 1) _ (ap (λ (q : Part). q.number) wa))
+      (with_behind 1 _ (i + 3) _ (omega arith) (digits_as l b 1 (i + 2) _ (ap (λ (q : Part). q.number) ha))
+      (with_behind 4 _ (i + 7) _ (omega arith) (digits_value l b 4 (i + 3))
+      (with_behind 4 _ (i + 11) _ (omega arith) (digits_as l b 4 (i + 7) _ (ap (λ (q : LifeParts). q.word) la))
       (digits_as l b 8 (i + 11) _ (ap (λ (q : LifeParts). q.due) la))))))
 
-  pub timer-fits : timer_clear l i ≡ true → timer_in l i ≡ true → TimerIn (timer_of l i)
+  pub timer_fits : timer_clear l i ≡ true → timer_in l i ≡ true → TimerIn (timer_of l i)
   unfolding timer_of
-  timer-fits c r =
+  timer_fits c r =
       let v = parts c r in
       record {
         uses_in = value_small l b 4 (i + 3);

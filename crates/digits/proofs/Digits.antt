@@ -13,7 +13,7 @@ use borrow.Author.Tests.{eqb-true, eq-eqb}
 use mathlib.Core.Logic.{by_cases}
 use native.Mathlib.Decide.{dec_lt}
 use Rattle.digits.specs.Digits.{digits, value_at, zeros_at, Bytes, Stands}
-use Rattle.digits.proofs.Passing.{all-by, all-at}
+use Rattle.digits.proofs.Passing.{all_by, all_at}
 
 pub length_digits : (k n : ℕ) → length (digits k n) ≡ k
 length_digits zero n = refl
@@ -90,12 +90,12 @@ pub zeros_stand : (k : ℕ) (l : List ℕ) (i : ℕ) → zeros_at k l i ≡ true
 zeros_stand k l i e = record {
   there = λ j q.
       let p : j < k = omega (arith, length-replicate {A = ℕ} k 0) in
-      eqb-true (get_or l (i + j) 0) 0 (all-at (λ j. eqb (get_or l (i + j) 0) 0) k e j p) ∙ sym (get_or-replicate k j 0 0 p);
+      eqb-true (get_or l (i + j) 0) 0 (all_at (λ j. eqb (get_or l (i + j) 0) 0) k e j p) ∙ sym (get_or-replicate k j 0 0 p);
 }
 
 pub stand_zeros : (k : ℕ) (l : List ℕ) (i : ℕ) → Stands l i (replicate k 0) → zeros_at k l i ≡ true
 stand_zeros k l i s =
-    all-by (λ j. eqb (get_or l (i + j) 0) 0) k
+    all_by (λ j. eqb (get_or l (i + j) 0) 0) k
     (λ j p. eq-eqb (get_or l (i + j) 0) 0 (s.there j (omega (arith, length-replicate {A = ℕ} k 0)) ∙ get_or-replicate k j 0 0 p))
 
 -- what stands from the start on, as long as the bytes are, is the bytes
@@ -111,8 +111,8 @@ module _ {l : List ℕ} {i : ℕ} where
   pub behind : (k n j : ℕ) (t : List ℕ) → i + k ≡ j → Stands l i (digits k n ++ t) → Stands l j t
   behind k n j t e s = stands_skip (digits k n) t k j (length_digits k n) e s
 
-  pub with-behind : (k n j : ℕ) (t : List ℕ) → i + k ≡ j → Stands l i (digits k n) → Stands l j t → Stands l i (digits k n ++ t)
-  with-behind k n j t e a b = stands_then (digits k n) t k j (length_digits k n) e a b
+  pub with_behind : (k n j : ℕ) (t : List ℕ) → i + k ≡ j → Stands l i (digits k n) → Stands l j t → Stands l i (digits k n ++ t)
+  with_behind k n j t e a b = stands_then (digits k n) t k j (length_digits k n) e a b
 
 -- the bytes of the number that they make, by any name of the number
 pub digits_as : (l : List ℕ) → Bytes l → (k i n : ℕ) → n ≡ value_at k l i → Stands l i (digits k n)

@@ -20,21 +20,21 @@ module _ (ok : ℕ → Bool) where
   unfolding all_to
   all_more n = ap (all_to ok) (add-one n)
 
-  pub all-by : (n : ℕ) → ((j : ℕ) → j < n → ok j ≡ true) → all_to ok n ≡ true
+  pub all_by : (n : ℕ) → ((j : ℕ) → j < n → ok j ≡ true) → all_to ok n ≡ true
   unfolding all_to
-  all-by zero h = refl
-  all-by (suc n) h = (λ k. all-by n (λ j q. h j (omega arith)) k && h n (omega arith) k)
+  all_by zero h = refl
+  all_by (suc n) h = (λ k. all_by n (λ j q. h j (omega arith)) k && h n (omega arith) k)
 
-  pub all-at : (n : ℕ) → all_to ok n ≡ true → (j : ℕ) → j < n → ok j ≡ true
+  pub all_at : (n : ℕ) → all_to ok n ≡ true → (j : ℕ) → j < n → ok j ≡ true
   unfolding all_to
-  all-at zero e j q = absurd (omega arith)
-  all-at (suc n) e j q =
-      by_cases (dec_lt j n) (λ p. all-at n (and_left (all_to ok n) (ok n) e) j p)
+  all_at zero e j q = absurd (omega arith)
+  all_at (suc n) e j q =
+      by_cases (dec_lt j n) (λ p. all_at n (and_left (all_to ok n) (ok n) e) j p)
       (λ p. let d : n ≡ j = omega arith in subst (λ (m : ℕ). ok m ≡ true) d (and_right (all_to ok n) (ok n) e))
 
   -- one that does not pass
-  pub all-not : (n j : ℕ) → j < n → ok j ≡ false → all_to ok n ≡ false
-  all-not n j q e = is_false (all_to ok n) (λ a. true_false (all-at n a j q) e)
+  pub all_not : (n j : ℕ) → j < n → ok j ≡ false → all_to ok n ≡ false
+  all_not n j q e = is_false (all_to ok n) (λ a. true_false (all_at n a j q) e)
 
 -- two tests of two things, in either order
 pub two_tests : (a b c d : Bool) → ((a && b) && (c && d)) ≡ ((a && c) && (b && d))

@@ -66,8 +66,8 @@ module _ (b : List ℕ) (s : Set) where
   refused_end BadRecord = refl
   refused_end BadImage = refl
 
-  pub refused-ends : {r : ℕ} (y : Reply) (w : Refusal) → y ≡ R.Refused w → r ≡ status_of {A = Nothing} (refuse w) → Leaves (end_of b (said y) s) b r
-  refused-ends {r} y w e f =
+  pub refused_ends : {r : ℕ} (y : Reply) (w : Refusal) → y ≡ R.Refused w → r ≡ status_of {A = Nothing} (refuse w) → Leaves (end_of b (said y) s) b r
+  refused_ends {r} y w e f =
       subst (λ (x : Reply). Leaves (end_of b (said x) s) b r) (sym e) (leaves _ b (refuse w) r (sym (refused_end w)) f)
 
   -- the set of any other is written
@@ -81,6 +81,6 @@ module _ (b : List ℕ) (s : Set) where
   done_end (R.Ticked t) k = refl
   done_end (R.Refused r) k = absurd (miss (0 ∷ 1 ∷ 2 ∷ 3 ∷ 4 ∷ 5 ∷ 6 ∷ []) 7 tt k)
 
-  pub done-ends : {b' : List ℕ} {r : ℕ} (y : Reply) → OneOf (0 ∷ 1 ∷ 2 ∷ 3 ∷ 4 ∷ 5 ∷ 6 ∷ []) (tag_of Reply.the_type y) → Leaves (write_of s b) b' r
+  pub done_ends : {b' : List ℕ} {r : ℕ} (y : Reply) → OneOf (0 ∷ 1 ∷ 2 ∷ 3 ∷ 4 ∷ 5 ∷ 6 ∷ []) (tag_of Reply.the_type y) → Leaves (write_of s b) b' r
       → Leaves (end_of b (said y) s) b' r
-  done-ends {b'} {r} y k l = subst (λ (o : Outcome (List ℕ) Nothing). Leaves o b' r) (sym (done_end y k)) l
+  done_ends {b'} {r} y k l = subst (λ (o : Outcome (List ℕ) Nothing). Leaves o b' r) (sym (done_end y k)) l

@@ -30,8 +30,8 @@ pub record Told (o : Outcome (List ℕ) Value) (b' : List ℕ) (n : ℕ) (a : An
   pub answer : o.answer ≡ a
 
 module _ (b : List ℕ) (f : Set → Outcome Set Value) (r : Reading) (e : told_reading r ≡ read_of b) where
-  pub set-refused : {n : ℕ} (w : Refusal) → r.reply ≡ I.Refused w → n ≡ status_of {A = Nothing} (refuse w) → Told (settled b f) b n (refuse w)
-  set-refused w g s =
+  pub set_refused : {n : ℕ} (w : Refusal) → r.reply ≡ I.Refused w → n ≡ status_of {A = Nothing} (refuse w) → Told (settled b f) b n (refuse w)
+  set_refused w g s =
       let q = read_refused b b (λ s. pictured b (f s)) r e w g in
       record {
         image = sym (ap (λ (o : Outcome (List ℕ) Value). o.state) q);
@@ -39,10 +39,10 @@ module _ (b : List ℕ) (f : Set → Outcome Set Value) (r : Reading) (e : told_
         answer = ap (λ (o : Outcome (List ℕ) Value). o.answer) q;
       }
 
-  pub set-done : {b' : List ℕ} {n : ℕ} (a : After) → r.reply ≡ I.Done → told a ≡ f r.set
+  pub set_done : {b' : List ℕ} {n : ℕ} (a : After) → r.reply ≡ I.Done → told a ≡ f r.set
       → write_of (f r.set).state b ≡ done (image_of (f r.set).state) → Leaves (end_of b (said a.reply) a.set) b' n
       → Told (settled b f) b' n (said a.reply)
-  set-done {b'} {n} a g t w l =
+  set_done {b'} {n} a g t w l =
       let q = sym (read_done b b (λ s. pictured b (f s)) r e g) in
       let p = ends b (f r.set) w (subst (λ (o : Outcome Set Value). Leaves (end_of b o.answer o.state) b' n) t l) in
       record {

@@ -18,7 +18,7 @@ use Rattle.timers.specs.declared.Reply.{Reply}
 use Rattle.timers.specs.declared.Reply.TheVariants as R
 use Rattle.timers.specs.Values.{Value, reports_in}
 use Rattle.timers.specs.Calls.{Lent, turn_of, step, said, told, told_with}
-use Rattle.laws.proofs.Widths.TurnList.{Lists, turn-list}
+use Rattle.laws.proofs.Widths.TurnList.{Lists, turn_list}
 use Rattle.image.specs.declared.Reading.{Reading}
 use Rattle.image.specs.declared.Reply.TheVariants as I
 use Rattle.image.specs.Image.{image_of}
@@ -28,7 +28,7 @@ use Rattle.host.specs.Calls.{Board, reporting, turn_on}
 use Rattle.host.specs.Seen.{count_or}
 use Rattle.host.specs.Promises.{Turns, Leaves, end_of}
 use Rattle.host.proofs.Readings.{read_refused, read_done, told_refused, no_count, ends}
-use Rattle.host.proofs.Writing.{taken, after-written}
+use Rattle.host.proofs.Writing.{taken, after_written}
 
 -- what is told of a turn that answers a and leaves the list l'
 pub record TurnTold (o : Outcome Board Value) (b' : List ℕ) (n : ℕ) (a : Answer Value) (out l' : List ℕ) : Type 0 where
@@ -51,9 +51,9 @@ module _ (b : List ℕ) (N : ℕ) (out : List ℕ) (r : Reading) (e : told_readi
   abbrev run : Set → Outcome Board Value
   run s = reporting b out (turn_of s N (list_in (length out)))
 
-  pub turn-refused : {m n : ℕ} (w : Refusal) → r.reply ≡ I.Refused w → n ≡ status_of {A = Nothing} (refuse w) → Turns b N out m b out m n
+  pub turn_refused : {m n : ℕ} (w : Refusal) → r.reply ≡ I.Refused w → n ≡ status_of {A = Nothing} (refuse w) → Turns b N out m b out m n
   unfolding turn_on
-  turn-refused {m} w g s =
+  turn_refused {m} w g s =
       let q = read_refused b before run r e w g in
       record {
         image = sym (ap (λ (o : Outcome Board Value). o.state.image) q);
@@ -71,7 +71,7 @@ module _ (b : List ℕ) (N : ℕ) (out : List ℕ) (r : Reading) (e : told_readi
         let q = ap (reporting b out) u ∙ sym (read_done b before run r e g) in
         let w : write_of a.set b ≡ done (image_of a.set) =
         subst (λ (s : Set). write_of s b ≡ done (image_of s)) (sym (ap (λ (o : Outcome Lent Value). o.state.set) u))
-        (after-written b r y e g (C.Turn N) (list_in (length out)))
+        (after_written b r y e g (C.Turn N) (list_in (length out)))
         in
         let p = ends b (told a) w x in
         record {
@@ -86,7 +86,7 @@ module _ (b : List ℕ) (N : ℕ) (out : List ℕ) (r : Reading) (e : told_readi
     ran_list n p z =
         let s = taken b r y e g in
         subst (λ (x : Reply). Lists (reports_in (said x)) l l') z
-        (subst (λ (o : Outcome Lent Value). Lists (reports_in o.answer) l o.state.list) (sym t) (turn-list r.set s.sound s.widths N l))
+        (subst (λ (o : Outcome Lent Value). Lists (reports_in o.answer) l o.state.list) (sym t) (turn_list r.set s.sound s.widths N l))
 
     -- the list stands at the start of another, whose rest is q
     pub ran_within : (n p : ℕ) (q : List ℕ) → a.reply ≡ R.Ran n p → n ≤ length (l' ++ q)

@@ -16,10 +16,10 @@ use Rattle.state.specs.InUse.{SameInUse, Twins}
 use Rattle.state.specs.declared.Set.{Set}
 use Rattle.state.proofs.InUse.{fault_in_use}
 use Rattle.digits.specs.Rows.{rows, blocks, used}
-use Rattle.digits.proofs.Rows.{rows_at, rows_ext, length-rows, get_d_any}
+use Rattle.digits.proofs.Rows.{rows_at, rows_ext, length_rows, get_d_any}
 use Rattle.cells.specs.Cells.{header_bytes, entry_bytes, slot_bytes}
 use Rattle.image.specs.Image.{zero_slot, header_for, entries_bytes, slots_bytes, timers_bytes, image_of, cleared}
-use Rattle.image.proofs.Records.{used-twice}
+use Rattle.image.proofs.Records.{used_twice}
 
 module _ {A : Type 0} where
   -- what is in use is as it was
@@ -33,14 +33,14 @@ module _ (s : Set) (l : s.heap.len ≤ cap) (m : s.heap.made ≤ cap) (v : Heap.
   slot_kept j q =
       let xs = s.heap.slots in
       let ys = rows (used zero_slot s.heap.made xs) cap in
-      get_d_any ys j no_slot zero_slot (omega (arith, length-rows (used zero_slot s.heap.made xs) cap))
+      get_d_any ys j no_slot zero_slot (omega (arith, length_rows (used zero_slot s.heap.made xs) cap))
       ∙ kept zero_slot s.heap.made xs j m q
       ∙ get_d_any xs j zero_slot no_slot (omega (arith, v.slots_long))
 
   -- the cleared set is the same in all that counts
-  pub cleared-same : SameInUse (cleared s) s
+  pub cleared_same : SameInUse (cleared s) s
   unfolding cleared
-  cleared-same = record {
+  cleared_same = record {
     heaps = record {
       same_len = refl;
       same_made = refl;
@@ -53,17 +53,17 @@ module _ (s : Set) (l : s.heap.len ≤ cap) (m : s.heap.made ≤ cap) (v : Heap.
     same_closed = refl;
   }
 
-  pub cleared-twins : Twins (cleared s) s
+  pub cleared_twins : Twins (cleared s) s
   unfolding cleared
-  cleared-twins = record {
-    same = cleared-same;
-    left = record { entries_long = length-rows (used no_entry s.heap.len s.heap.entries) cap; slots_long = length-rows (used zero_slot s.heap.made s.heap.slots) cap };
+  cleared_twins = record {
+    same = cleared_same;
+    left = record { entries_long = length_rows (used no_entry s.heap.len s.heap.entries) cap; slots_long = length_rows (used zero_slot s.heap.made s.heap.slots) cap };
     right = v;
   }
 
   -- and its fault is the same
-  pub cleared-fault : fault_of (cleared s) ≡ fault_of s
-  cleared-fault = fault_in_use cleared-twins
+  pub cleared_fault : fault_of (cleared s) ≡ fault_of s
+  cleared_fault = fault_in_use cleared_twins
 
 -- what is cleared is not seen in the bytes
 pub image_cleared : (s : Set) → image_of (cleared s) ≡ image_of s
@@ -71,6 +71,6 @@ unfolding image_of entries_bytes slots_bytes timers_bytes cleared
 image_cleared s =
     let n = s.heap.len in
     let m = s.heap.made in
-    let e = rows_ext _ (used no_entry n s.heap.entries) cap (used-twice no_entry n cap (λ j. get_or s.heap.entries j no_entry)) in
-    let t = rows_ext _ (used zero_slot m s.heap.slots) cap (used-twice zero_slot m cap (λ j. get_or s.heap.slots j zero_slot)) in
+    let e = rows_ext _ (used no_entry n s.heap.entries) cap (used_twice no_entry n cap (λ j. get_or s.heap.entries j no_entry)) in
+    let t = rows_ext _ (used zero_slot m s.heap.slots) cap (used_twice zero_slot m cap (λ j. get_or s.heap.slots j zero_slot)) in
     λ k. header_bytes (header_for s) ++ (blocks entry_bytes (e k) ++ (blocks slot_bytes (t k) ++ timers_bytes s))

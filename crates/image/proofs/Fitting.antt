@@ -13,7 +13,7 @@ use borrow.Author.Tests.{lt-ltb, eqb-true}
 use Rattle.theory.specs.Counting.{Mem}
 use Rattle.theory.specs.Chain.{unless, Chain, chain_okb}
 use Rattle.theory.proofs.Tests.{none_some}
-use Rattle.theory.proofs.ChainTest.{ok-head, ok-lists}
+use Rattle.theory.proofs.ChainTest.{ok_head, ok_lists}
 use Rattle.heap.specs.Capacity.{cap}
 use Rattle.heap.specs.declared.Heap.{Heap}
 use Rattle.heap.specs.declared.Slot.{Slot}
@@ -77,18 +77,18 @@ module _ (h : Heap) (v : Heap.Sound h) where
   free_in =
       let a : h.free.0 ≤ h.made =
       link_in h.made h.free.0
-      (λ e. empty_made h h.free.0 (ok-head (empty_at h) (next_at h) h.made h.free.0 (subst (λ (o : Option ℕ). chain_okb (empty_at h) (next_at h) h.made o ≡ true) e v.chained)))
+      (λ e. empty_made h h.free.0 (ok_head (empty_at h) (next_at h) h.made h.free.0 (subst (λ (o : Option ℕ). chain_okb (empty_at h) (next_at h) h.made o ≡ true) e v.chained)))
       in
       omega (arith, v.made_in)
 
   -- what a slot that was made names
-  state-fits : (j : ℕ) → j < h.made → StateIn (state_at h j)
-  state-fits j q = go (state_at h j) refl
+  state_fits : (j : ℕ) → j < h.made → StateIn (state_at h j)
+  state_fits j q = go (state_at h j) refl
     where
       go : (x : SlotState) → state_at h j ≡ x → StateIn x
       go (Full p) e = let b = (full_back h v j p q e).0 in omega (arith, b, v.len_in)
       go (Empty n) e =
-          let r = ok-lists (empty_at h) (next_at h) h.made (empty_made h) (unless h.made h.free.0) v.chained in
+          let r = ok_lists (empty_at h) (next_at h) h.made (empty_made h) (unless h.made h.free.0) v.chained in
           let c : empty_at h j ≡ true = empties j q n e in
           let m = r.2.whole j q c in
           let a : n.0 ≤ h.made =
@@ -128,7 +128,7 @@ module _ (s : Set) (v : Sound s) where
       go F.Nothing e = omega arith
       go (F.At p) e =
           waits_below s p.0
-          (ok-head (waits_at s) (after_at s) cap p.0 (subst (λ (x : First). chain_okb (waits_at s) (after_at s) cap (head_of x) ≡ true) e v.listed))
+          (ok_head (waits_at s) (after_at s) cap p.0 (subst (λ (x : First). chain_okb (waits_at s) (after_at s) cap (head_of x) ≡ true) e v.listed))
 
   -- the place that a timer waits before
   next_in_range : (p : ℕ) → p < cap → (waiting_parts (timer_at s p).waiting).number < cap
@@ -139,7 +139,7 @@ module _ (s : Set) (v : Sound s) where
       go No e = omega arith
       go Last e = omega arith
       go (Before n) e =
-          let r = ok-lists (waits_at s) (after_at s) cap (waits_below s) (head_of s.first) v.listed in
+          let r = ok_lists (waits_at s) (after_at s) cap (waits_below s) (head_of s.first) v.listed in
           let m = r.2.whole p q (waits_in s q (ap is_waiting e)) in
           waits_below s n.0 (chain_next (waits_at s) (after_at s) r.0 (head_of s.first) r.1 p n.0 m (ap next_in e))
 
@@ -166,7 +166,7 @@ module _ (s : Set) (v : Sound s) where
         };
         slots_in_range = λ j q.
             subst (λ (x : SlabSlot). StateIn x.state) (get_d_any s.heap.slots j no_slot zero_slot (omega (arith, h.slots_long, h.made_in)))
-            (state-fits s.heap h j q);
+            (state_fits s.heap h j q);
         each_timer_in = λ p q.
             let l = life_in (timer_at s p).life (w.timers_in p q).life_in in
             record { uses_in = (w.timers_in p q).uses_in; word_in = l.0; due_in = l.1; next_in_range = next_in_range p q; slot_in_range = slot_in_range p q };

@@ -10,10 +10,10 @@ use Rattle.state.proofs.FreshSound.{fresh_sound}
 use Rattle.state.proofs.Widths.{fresh_widths}
 use Rattle.image.specs.Image.{size, image_of, cleared}
 use Rattle.image.specs.Calls.{read_of, write_of}
-use Rattle.image.proofs.Accepted.{read-image, sound_written}
+use Rattle.image.proofs.Accepted.{read_image, sound_written}
 
 pub fresh_written : (out : List ℕ) → length out ≡ size → write_of fresh_of out ≡ done (image_of fresh_of)
 fresh_written = sound_written fresh_of fresh_sound fresh_widths
 
 pub fresh_read : read_of (image_of fresh_of) ≡ done (cleared fresh_of)
-fresh_read = read-image fresh_of fresh_sound fresh_widths
+fresh_read = read_image fresh_of fresh_sound fresh_widths

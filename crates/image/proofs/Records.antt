@@ -15,8 +15,8 @@ use Rattle.digits.proofs.Digits.{zeros_stand, stand_zeros}
 use Rattle.digits.proofs.Rows.{rows_at}
 use Rattle.cells.specs.Cells.{entry_bytes, slot_bytes}
 use Rattle.cells.specs.Ranges.{EntryIn, StateIn}
-use Rattle.cells.proofs.Again.{Again, entry-again, slot-again}
-use Rattle.cells.proofs.Standing.{entry-stands, slot-stands}
+use Rattle.cells.proofs.Again.{Again, entry_again, slot_again}
+use Rattle.cells.proofs.Standing.{entry_stands, slot_stands}
 use Rattle.image.specs.Image.{zero_slot, entry_or, slot_or, entry_clear_if, slot_clear_if, entry_in_if, slot_in_if}
 
 -- what is not in use is zeros
@@ -29,37 +29,37 @@ unfolding slot_bytes
 slot_zeros = refl
 
 module _ {l : List ℕ} {i : ℕ} where
-  pub entry-if-again : (b : Bool) (e : Entry) → (b ≡ true → EntryIn e) → Stands l i (entry_bytes (cond b e no_entry))
+  pub entry_if_again : (b : Bool) (e : Entry) → (b ≡ true → EntryIn e) → Stands l i (entry_bytes (cond b e no_entry))
       → Again (entry_clear_if b l i) (entry_in_if b l i) (entry_or b l i) (cond b e no_entry)
-  entry-if-again true e h s = entry-again e (h refl) s
-  entry-if-again false e h s = record {
+  entry_if_again true e h s = entry_again e (h refl) s
+  entry_if_again false e h s = record {
     clear = stand_zeros 14 l i (subst (λ (t : List ℕ). Stands l i t) entry_zeros s);
     within = refl;
     again = refl;
   }
 
-  pub slot-if-again : (b : Bool) (x : SlabSlot) → (b ≡ true → StateIn x.state) → Stands l i (slot_bytes (cond b x zero_slot))
+  pub slot_if_again : (b : Bool) (x : SlabSlot) → (b ≡ true → StateIn x.state) → Stands l i (slot_bytes (cond b x zero_slot))
       → Again (slot_clear_if b l i) (slot_in_if b l i) (slot_or b l i) (cond b x zero_slot)
-  slot-if-again true x h s = slot-again x (h refl) s
-  slot-if-again false x h s = record {
+  slot_if_again true x h s = slot_again x (h refl) s
+  slot_if_again false x h s = record {
     clear = stand_zeros 2 l i (subst (λ (t : List ℕ). Stands l i t) slot_zeros s);
     within = refl;
     again = refl;
   }
 
 module _ (l : List ℕ) (y : Bytes l) (i : ℕ) where
-  pub entry-if-stands : (b : Bool) → entry_clear_if b l i ≡ true → Stands l i (entry_bytes (entry_or b l i))
-  entry-if-stands true e = entry-stands l y i
-  entry-if-stands false e = subst (λ (t : List ℕ). Stands l i t) (sym entry_zeros) (zeros_stand 14 l i e)
+  pub entry_if_stands : (b : Bool) → entry_clear_if b l i ≡ true → Stands l i (entry_bytes (entry_or b l i))
+  entry_if_stands true e = entry_stands l y i
+  entry_if_stands false e = subst (λ (t : List ℕ). Stands l i t) (sym entry_zeros) (zeros_stand 14 l i e)
 
-  pub slot-if-stands : (b : Bool) → slot_clear_if b l i ≡ true → Stands l i (slot_bytes (slot_or b l i))
-  slot-if-stands true e = slot-stands l y i e
-  slot-if-stands false e = subst (λ (t : List ℕ). Stands l i t) (sym slot_zeros) (zeros_stand 2 l i e)
+  pub slot_if_stands : (b : Bool) → slot_clear_if b l i ≡ true → Stands l i (slot_bytes (slot_or b l i))
+  slot_if_stands true e = slot_stands l y i e
+  slot_if_stands false e = subst (λ (t : List ℕ). Stands l i t) (sym slot_zeros) (zeros_stand 2 l i e)
 
 module _ {A : Type 0} where
   -- the records in use of records that are zero where they are not in use
-  pub used-twice : (d : A) (n m : ℕ) (f : ℕ → A) (j : ℕ) → j < m → used d n (rows (λ j. cond (ltb j n) (f j) d) m) j ≡ cond (ltb j n) (f j) d
-  used-twice d n m f j q =
+  pub used_twice : (d : A) (n m : ℕ) (f : ℕ → A) (j : ℕ) → j < m → used d n (rows (λ j. cond (ltb j n) (f j) d) m) j ≡ cond (ltb j n) (f j) d
+  used_twice d n m f j q =
       ap (λ (x : A). cond (ltb j n) x d) (rows_at (λ j. cond (ltb j n) (f j) d) m j d q) ∙ go (ltb j n)
     where
       go : (b : Bool) → cond b (cond b (f j) d) d ≡ cond b (f j) d

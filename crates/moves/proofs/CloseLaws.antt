@@ -9,7 +9,7 @@ use Rattle.heap.specs.declared.Place.{Place}
 use Rattle.heap.specs.Rules.{entry_at}
 use Rattle.heap.specs.Sound.{Sound}
 use Rattle.heap.specs.Calls.{pop_sound}
-use Rattle.heap.proofs.Soundness.SoundKept.{pop-sound}
+use Rattle.heap.proofs.Soundness.SoundKept.{pop_sound_lem}
 use Rattle.state.specs.declared.Waiting.TheVariants.{No}
 use Rattle.state.specs.declared.Held.TheVariants as Held
 use Rattle.state.specs.declared.First.{First}
@@ -85,7 +85,7 @@ popped_out s b = rw (set_out s.timers (entry_at s.heap 0).place.0 _ b)
 -- a pop keeps the heap sound
 pub popped_heap : (s : Set) → Sound s.heap → Sound (popped_of s).heap
 unfolding popped_of
-popped_heap s h = pop-sound s.heap h
+popped_heap s h = pop_sound_lem s.heap h
 
 -- and the number of places
 pub popped_timers : (s : Set) → length (popped_of s).timers ≡ length s.timers

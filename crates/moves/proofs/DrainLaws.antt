@@ -15,7 +15,7 @@ use Rattle.heap.specs.declared.Heap.{Heap}
 use Rattle.heap.specs.declared.Place.{Place}
 use Rattle.heap.specs.Calls.{push_sound}
 use Rattle.heap.specs.Sound.{Sound}
-use Rattle.heap.proofs.Soundness.SoundKept.{push-sound, remove-sound}
+use Rattle.heap.proofs.Soundness.SoundKept.{push_sound_lem, remove_sound_lem}
 use Rattle.word.specs.Rules.{generation_of}
 use Rattle.state.specs.declared.Life.{Life}
 use Rattle.state.specs.contracts.Life.{the_type}
@@ -31,7 +31,7 @@ use Rattle.moves.specs.Rules.{with_timer, with_heap, with_first, dropped_of, hel
 -- a heap stays sound without the entry that a timer holds
 pub dropped_sound : (h : Heap) → Sound h → (d : Held) → Sound (dropped_of h d)
 dropped_sound h s Held.Nothing = s
-dropped_sound h s (Held.At q) = remove-sound h s q
+dropped_sound h s (Held.At q) = remove_sound_lem h s q
 
 -- the set without the first timer of its list, the one at p
 abbrev pub without : Set → ℕ → Set
@@ -57,27 +57,27 @@ module _ (s : Set) (p : ℕ) where
   idle l = with_timer (without s p) p (record { life = l; waiting = No; held = (timer_at s p).held; uses = (timer_at s p).uses })
 
   -- nobody's place, by its tag of a free or of a retired one, is only taken off the list
-  pub settled-idle : (l : Life) → (timer_at s p).life ≡ l → (tag_of the_type l ≡ 0) ⊎ (tag_of the_type l ≡ 3) → settled_of s p ≡ idle l
-  settled-idle Free e k = settled_by_lem e
-  settled-idle (Live w d) e k = absurd (⊎_elim (λ q. omega arith) (λ q. omega arith) k)
-  settled-idle (Cancelled w) e k = absurd (⊎_elim (λ q. omega arith) (λ q. omega arith) k)
-  settled-idle Retired e k = settled_by_lem e
+  pub settled_idle : (l : Life) → (timer_at s p).life ≡ l → (tag_of the_type l ≡ 0) ⊎ (tag_of the_type l ≡ 3) → settled_of s p ≡ idle l
+  settled_idle Free e k = settled_by_lem e
+  settled_idle (Live w d) e k = absurd (⊎_elim (λ q. omega arith) (λ q. omega arith) k)
+  settled_idle (Cancelled w) e k = absurd (⊎_elim (λ q. omega arith) (λ q. omega arith) k)
+  settled_idle Retired e k = settled_by_lem e
 
   -- a place out of range ends the list
-  pub settled-out : length s.timers ≤ p → settled_of s p ≡ with_first s First.Nothing
+  pub settled_out : length s.timers ≤ p → settled_of s p ≡ with_first s First.Nothing
   unfolding settled_of
-  settled-out out =
+  settled_out out =
       ap (λ (t : Timer). settled_by (with_first s (head_after t.waiting)) p t t.life) (get_or-eq_default s.timers no_timer out)
       ∙ ap (λ (ts : List Timer). record { heap = s.heap; timers = ts; first = First.Nothing; closed = s.closed }) (set_out s.timers p no_timer out)
 
   -- an update keeps the heap sound
-  pub settled-heap : Sound s.heap → Sound (settled_of s p).heap
+  pub settled_heap : Sound s.heap → Sound (settled_of s p).heap
   unfolding settled_of
-  settled-heap h = go (timer_at s p).life
+  settled_heap h = go (timer_at s p).life
     where
       go : (l : Life) → Sound (settled_by (without s p) p (timer_at s p) l).heap
       go Free = h
-      go (Live w d) = push-sound _ (dropped_sound s.heap h (timer_at s p).held) d (generation_of w) (record { 0 = p })
+      go (Live w d) = push_sound_lem _ (dropped_sound s.heap h (timer_at s p).held) d (generation_of w) (record { 0 = p })
       go (Cancelled w) = dropped_sound s.heap h (timer_at s p).held
       go Retired = h
 
@@ -106,4 +106,4 @@ drain_keeps P one (suc k) s h =
 
 -- a drain keeps the heap sound
 pub drained_heap : (k : ℕ) (s : Set) → Sound s.heap → Sound (drain_from k s).heap
-drained_heap = drain_keeps (λ s. Sound s.heap) settled-heap
+drained_heap = drain_keeps (λ s. Sound s.heap) settled_heap

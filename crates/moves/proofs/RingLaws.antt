@@ -10,7 +10,7 @@ use Rattle.heap.specs.declared.Entry.{Entry}
 use Rattle.heap.specs.Rules.{entry_at}
 use Rattle.heap.specs.Sound.{Sound}
 use Rattle.heap.specs.Calls.{pop_sound}
-use Rattle.heap.proofs.Soundness.SoundKept.{pop-sound}
+use Rattle.heap.proofs.Soundness.SoundKept.{pop_sound_lem}
 use Rattle.state.specs.declared.Timer.{Timer}
 use Rattle.state.specs.declared.Set.{Set}
 use Rattle.state.specs.State.{no_timer, timer_at}
@@ -35,27 +35,27 @@ rung_set r = with_timer (popped_set r) (head r).place.0 (rung_timer (head r).gen
 
 module _ (N : ℕ) where
   -- where the head is due it is popped, and one turn fewer is left
-  pub ring-goes : (n : ℕ) (r : Ring) → 0 < n → due_by r.set.heap N ≡ true → ring_from n r N ≡ ring_from (n - 1) (rung_of r) N
+  pub ring_goes : (n : ℕ) (r : Ring) → 0 < n → due_by r.set.heap N ≡ true → ring_from n r N ≡ ring_from (n - 1) (rung_of r) N
   unfolding ring_from
-  ring-goes zero r b e = absurd (omega arith)
-  ring-goes (suc k) r b e = let m : k ≡ suc k - 1 = omega arith in rw e (ap (λ (j : ℕ). ring_from j (rung_of r) N) m)
+  ring_goes zero r b e = absurd (omega arith)
+  ring_goes (suc k) r b e = let m : k ≡ suc k - 1 = omega arith in rw e (ap (λ (j : ℕ). ring_from j (rung_of r) N) m)
 
   -- where it is not, nothing more is done
-  pub ring-ends : (n : ℕ) (r : Ring) → due_by r.set.heap N ≡ false → ring_from n r N ≡ r
+  pub ring_ends : (n : ℕ) (r : Ring) → due_by r.set.heap N ≡ false → ring_from n r N ≡ r
   unfolding ring_from
-  ring-ends zero r e = refl
-  ring-ends (suc k) r e = rw e
+  ring_ends zero r e = refl
+  ring_ends (suc k) r e = rw e
 
   -- nor where no turn is left
-  pub ring-done : {n : ℕ} (r : Ring) → n ≡ 0 → ring_from n r N ≡ r
+  pub ring_done : {n : ℕ} (r : Ring) → n ≡ 0 → ring_from n r N ≡ r
   unfolding ring_from
-  ring-done r e = rw e
+  ring_done r e = rw e
 
 -- ONE POP
 
 module _ (r : Ring) where
   -- a timer that rings is reported at the next place of the list
-  pub rung-told : reports (head r).generation (struck r).life ≡ true
+  pub rung_told : reports (head r).generation (struck r).life ≡ true
       → rung_of r ≡ record {
         set = rung_set r;
         list = set r.list r.reported (handle_word (record { place = (head r).place; uses = (struck r).uses }));
@@ -63,50 +63,50 @@ module _ (r : Ring) where
         popped = r.popped + 1;
       }
   unfolding rung_of
-  rung-told e = rw e
+  rung_told e = rw e
 
   -- one that does not is not
-  pub rung-quiet : reports (head r).generation (struck r).life ≡ false
+  pub rung_quiet : reports (head r).generation (struck r).life ≡ false
       → rung_of r ≡ record { set = rung_set r; list = r.list; reported = r.reported; popped = r.popped + 1 }
   unfolding rung_of
-  rung-quiet e = rw e
+  rung_quiet e = rw e
 
   -- where the entry's place is out of range nothing is stored and nothing reported
-  pub rung-out : length r.set.timers ≤ (head r).place.0
+  pub rung_out : length r.set.timers ≤ (head r).place.0
       → rung_of r ≡ record { set = popped_set r; list = r.list; reported = r.reported; popped = r.popped + 1 }
-  rung-out b =
-      rung-quiet (ap (λ (t : Timer). reports (head r).generation t.life) (get_or-eq_default r.set.timers no_timer b))
+  rung_out b =
+      rung_quiet (ap (λ (t : Timer). reports (head r).generation t.life) (get_or-eq_default r.set.timers no_timer b))
       ∙ rw (set_out r.set.timers (head r).place.0 (rung_timer (head r).generation (struck r)) b)
 
   -- the heap stays sound
-  pub rung-heap : Sound r.set.heap → Sound (rung_of r).set.heap
+  pub rung_heap : Sound r.set.heap → Sound (rung_of r).set.heap
   unfolding rung_of
-  rung-heap s = pop-sound r.set.heap s
+  rung_heap s = pop_sound_lem r.set.heap s
 
   -- there are as many places as before
-  pub rung-timers : length (rung_of r).set.timers ≡ length r.set.timers
+  pub rung_timers : length (rung_of r).set.timers ≡ length r.set.timers
   unfolding rung_of
-  rung-timers = simp length-set
+  rung_timers = simp length-set
 
   -- the list is as long as before
-  pub rung-list : length (rung_of r).list ≡ length r.list
-  rung-list = go (reports (head r).generation (struck r).life) refl
+  pub rung_list : length (rung_of r).list ≡ length r.list
+  rung_list = go (reports (head r).generation (struck r).life) refl
     where
       go : (b : Bool) → reports (head r).generation (struck r).life ≡ b → length (rung_of r).list ≡ length r.list
-      go true e = ap (λ (x : Ring). length x.list) (rung-told e) ∙ simp length-set
-      go false e = ap (λ (x : Ring). length x.list) (rung-quiet e)
+      go true e = ap (λ (x : Ring). length x.list) (rung_told e) ∙ simp length-set
+      go false e = ap (λ (x : Ring). length x.list) (rung_quiet e)
 
   -- one entry more is popped
-  pub rung-popped : (rung_of r).popped ≡ r.popped + 1
+  pub rung_popped : (rung_of r).popped ≡ r.popped + 1
   unfolding rung_of
-  rung-popped = refl
+  rung_popped = refl
 
   -- and at most one timer more reported
   pub rung_reported : (rung_of r).reported ≤ r.reported + 1
   rung_reported = go (reports (head r).generation (struck r).life) refl
     where
       go : (b : Bool) → reports (head r).generation (struck r).life ≡ b → (rung_of r).reported ≤ r.reported + 1
-      go true e = omega (arith, ap (λ (x : Ring). x.reported) (rung-told e))
-      go false e = omega (arith, ap (λ (x : Ring). x.reported) (rung-quiet e))
+      go true e = omega (arith, ap (λ (x : Ring). x.reported) (rung_told e))
+      go false e = omega (arith, ap (λ (x : Ring). x.reported) (rung_quiet e))
 
 -- A WHOLE ADVANCE

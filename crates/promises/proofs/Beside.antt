@@ -167,26 +167,26 @@ module _ (E F : Engine) (asked : Call → Bool) (Tied : E.State → F.State → 
     accepted_too : Accepted E r c l → Accepted F q c l
     accepted_too y = sym alike.accepts ∙ y
 
-  from-runs : (cs : List (Call × List ℕ)) (r : Run E) (q : Run F) → Runs r q → all_asked asked cs ≡ true → Runs (from E r cs) (from F q cs)
+  from_runs : (cs : List (Call × List ℕ)) (r : Run E) (q : Run F) → Runs r q → all_asked asked cs ≡ true → Runs (from E r cs) (from F q cs)
   unfolding from
-  from-runs [] r q both a = both
-  from-runs (c ∷ cs) r q both a =
-      from-runs cs (next E r c.0 c.1) (next F q c.0 c.1)
+  from_runs [] r q both a = both
+  from_runs (c ∷ cs) r q both a =
+      from_runs cs (next E r c.0 c.1) (next F q c.0 c.1)
       (next_runs r q both c.0 c.1 (and_left (asked c.0) (all_asked asked cs) a)) (and_right (asked c.0) (all_asked asked cs) a)
 
   -- the premise of the one is the premise of the other
-  bounded-too : (cs : List (Call × List ℕ)) (r : Run E) (q : Run F) → Runs r q → all_asked asked cs ≡ true → Bounded E r cs → Bounded F q cs
+  bounded_too : (cs : List (Call × List ℕ)) (r : Run E) (q : Run F) → Runs r q → all_asked asked cs ≡ true → Bounded E r cs → Bounded F q cs
   unfolding Bounded
-  bounded-too [] r q both a low = subst (λ (L : Ledger). (h : Handle) → (L.line h).resets < 2 ^ 30) both.ledgers low
-  bounded-too (c ∷ cs) r q both a low = (
+  bounded_too [] r q both a low = subst (λ (L : Ledger). (h : Handle) → (L.line h).resets < 2 ^ 30) both.ledgers low
+  bounded_too (c ∷ cs) r q both a low = (
     subst (λ (L : Ledger). (h : Handle) → (L.line h).resets < 2 ^ 30) both.ledgers low.0,
-    bounded-too cs (next E r c.0 c.1) (next F q c.0 c.1)
+    bounded_too cs (next E r c.0 c.1) (next F q c.0 c.1)
         (next_runs r q both c.0 c.1 (and_left (asked c.0) (all_asked asked cs) a)) (and_right (asked c.0) (all_asked asked cs) a) low.1,
   )
 
   -- a moment of the other is a moment of the one
-  moment-too : (r : Run E) (q : Run F) → Runs r q → (P Q : Type 0) → (P → Q) → Moment F every q Q → Moment E asked r P
-  moment-too r q both P Q pq m =
+  moment_too : (r : Run E) (q : Run F) → Runs r q → (P Q : Type 0) → (P → Q) → Moment F every q Q → Moment E asked r P
+  moment_too r q both P Q pq m =
       let L = r.ledger in
       let M = q.ledger in
       let back : (X : Ledger → Type 0) → X M → X L = λ X x. subst X (sym both.ledgers) x in
@@ -217,14 +217,14 @@ module _ (E F : Engine) (asked : Call → Bool) (Tied : E.State → F.State → 
             (m.advances N l refl (pq p) (accepted_too r q both (C.Advance N) l a y)));
       }
 
-  every-asked : (cs : List (Call × List ℕ)) → all_asked every cs ≡ true
-  every-asked [] = refl
-  every-asked (c ∷ cs) = every-asked cs
+  every_asked : (cs : List (Call × List ℕ)) → all_asked every cs ≡ true
+  every_asked [] = refl
+  every_asked (c ∷ cs) = every_asked cs
 
   -- SO THE ONE MEETS DEMAND 3, of the calls that it is asked, where the other meets it of every call
-  pub beside-meets : Meets F every → Meets E asked
+  pub beside_meets : Meets F every → Meets E asked
   unfolding from
-  beside-meets k cs a =
+  beside_meets k cs a =
       let start : Runs (run E []) (run F []) = record { tied = b.at_start; ledgers = refl } in
-      moment-too (run E cs) (run F cs) (from-runs cs (run E []) (run F []) start a) (Bounded E (run E []) cs) (Bounded F (run F []) cs)
-      (bounded-too cs (run E []) (run F []) start a) (k cs (every-asked cs))
+      moment_too (run E cs) (run F cs) (from_runs cs (run E []) (run F []) start a) (Bounded E (run E []) cs) (Bounded F (run F []) cs)
+      (bounded_too cs (run E []) (run F []) start a) (k cs (every_asked cs))

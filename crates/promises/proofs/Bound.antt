@@ -11,8 +11,8 @@ use lib.ListN.{set, replicate}
 use Rattle.theory.specs.First.{first_bad}
 use Rattle.theory.specs.Tests.{bit}
 use Rattle.theory.specs.Occurs.{times}
-use Rattle.theory.proofs.Occurs.{times-same}
-use Rattle.theory.proofs.Update.{upd_same, upd-all}
+use Rattle.theory.proofs.Occurs.{times_same}
+use Rattle.theory.proofs.Update.{upd_same, upd_all}
 use Rattle.refusals.specs.Answer.{Outcome}
 use Rattle.heap.specs.Capacity.{cap}
 use Rattle.heap.specs.Rules.{put_at, up_from, taken_of, added_of, pushed_of}
@@ -28,7 +28,7 @@ use Rattle.state.specs.declared.Handle.{Handle}
 use Rattle.state.specs.State.{no_timer, fresh_of}
 use Rattle.state.specs.Handles.{handle_discrete}
 use Rattle.state.specs.Faults.{sound_of}
-use Rattle.state.proofs.Test.{sound-tells}
+use Rattle.state.proofs.Test.{sound_tells}
 use Rattle.moves.specs.Rules.{touched_of, taken, lowest_free, settled_of, drain_from, due_by, rung_of, ring_from, advanced_of}
 use Rattle.timers.proofs.Guarding.{sound_none}
 use Rattle.timers.specs.declared.Call.{Call}
@@ -42,7 +42,7 @@ use Rattle.promises.specs.Engine.{handed, ours}
 use Rattle.promises.specs.Bound.{words, its, resetting, reporting}
 use Rattle.promises.proofs.Ledger.Runs.{run_good}
 use Rattle.promises.proofs.Engine.{moment}
-use Rattle.promises.proofs.Meeting.{advance-accepted}
+use Rattle.promises.proofs.Meeting.{advance_accepted}
 
 -- THE SETS
 
@@ -149,7 +149,7 @@ none_yet =
 one_more_lem : (n : ℕ) (r : Run ours) → Reached n r → Reached (suc n) (next ours r (C.Reset its 20) words)
 unfolding note next
 one_more_lem n r k =
-    let o = subst (λ (s : Set). sound_of s ≡ true) k.state_is (sound-tells r.state k.fit.sound) in
+    let o = subst (λ (s : Set). sound_of s ≡ true) k.state_is (sound_tells r.state k.fit.sound) in
     let e = next_is r (stuck n) (C.Reset its 20) _ k.state_is (resets n o) in
     let here = upd_same handle_discrete r.ledger.line its (moved 20 (r.ledger.line its)) in
     subst (Reached (suc n)) (sym e)
@@ -158,7 +158,7 @@ one_more_lem n r k =
       state_is = refl;
       still_open = k.still_open;
       all = ap (λ (l : Line). l.resets) here ∙ ap suc k.all;
-      most = upd-all handle_discrete r.ledger.line its (moved 20 (r.ledger.line its)) (λ h l. l.resets ≤ suc n)
+      most = upd_all handle_discrete r.ledger.line its (moved 20 (r.ledger.line its)) (λ h l. l.resets ≤ suc n)
           (omega (arith, k.all)) (λ h _. omega (arith, k.most h));
       undrained = λ _. ap (λ (l : Line). l.drained) here;
       later = λ _. ap (λ (l : Line). l.due) here;
@@ -186,7 +186,7 @@ first_low : (h : Handle) → ((run ours ((C.Add 10, words) ∷ [])).ledger.line 
 unfolding note
 first_low =
     subst (λ (r : Run ours). (h : Handle) → (r.ledger.line h).resets < 2 ^ 30) (sym first_is)
-    (upd-all handle_discrete blank.line its (begun 10 (blank.line its)) (λ h l. l.resets < 2 ^ 30) (omega arith) (λ h _. omega arith))
+    (upd_all handle_discrete blank.line its (begun 10 (blank.line its)) (λ h l. l.resets < 2 ^ 30) (omega arith) (λ h _. omega arith))
 
 -- where n more make fewer than 2^30, the premise holds all the way
 bounded_more : (n m : ℕ) → n + m < 2 ^ 30 → (r : Run ours) → Reached m r → Bounded ours r (replicate n (C.Reset its 20, words))
@@ -202,7 +202,7 @@ within n b = (λ h. omega arith, (first_low, bounded_more n 0 (omega arith) (run
 
 -- an advance is accepted, however many there were
 too_many_accepted : (n : ℕ) → Accepted ours (run ours (resetting n)) (C.Advance 10) words
-too_many_accepted n = advance-accepted ours every (run ours (resetting n)) _ (moment (resetting n)) (reached n).still_open words (omega arith) 10 refl
+too_many_accepted n = advance_accepted ours every (run ours (resetting n)) _ (moment (resetting n)) (reached n).still_open words (omega arith) 10 refl
 
 -- with fewer than 2^30 resets its reports are exact
 pub few_enough : (n : ℕ) → n < 2 ^ 30 → Exact (run ours (resetting n)).ledger (λ x. owed x && x.drained) 10 (reporting n)
@@ -217,7 +217,7 @@ come_back (suc n) e = (reached (suc n)).state_is ∙ ap awaiting (omega arith)
 pub reported_early : (n : ℕ) → n ≡ 2 ^ 30 → (reporting n).reports ≡ its ∷ []
 reported_early n e =
     let c = come_back n e in
-    let o = subst (λ (s : Set). sound_of s ≡ true) c (sound-tells (run ours (resetting n)).state (reached n).fit.sound) in
+    let o = subst (λ (s : Set). sound_of s ≡ true) c (sound_tells (run ours (resetting n)).state (reached n).fit.sound) in
     ap (λ (s : Set). (seen (ours.step s (C.Advance 10) words)).reports) c ∙ rings o
 
 -- what was not drained does not pass
@@ -231,7 +231,7 @@ pub too_many : (n : ℕ) → n ≡ 2 ^ 30
 unfolding times
 too_many n e x =
     let L = (run ours (resetting n)).ledger in
-    let once : times handle_discrete its (its ∷ []) ≡ 1 = times-same handle_discrete its [] in
+    let once : times handle_discrete its (its ∷ []) ≡ 1 = times_same handle_discrete its [] in
     let told = ap (times handle_discrete its) (sym (reported_early n e)) ∙ x.each_once its in
     let d = (not_yet n (omega arith)).0 in
     let never = ap (λ (b : Bool). bit (owed (L.line its) && b && leb (L.line its).due 10)) d ∙ ap bit (undrained_fails (owed (L.line its)) (leb (L.line its).due 10)) in

@@ -8,16 +8,16 @@ use lib.ListN.{length}
 use Rattle.heap.specs.Capacity.{cap}
 use Rattle.state.specs.declared.Set.{Set}
 use Rattle.state.specs.Faults.{sound_of}
-use Rattle.state.proofs.Test.{sound-told, sound-tells}
+use Rattle.state.proofs.Test.{sound_told, sound_tells}
 use Rattle.promises.specs.Clauses.{broken}
 use Rattle.promises.proofs.ByClause.ClauseKept.{broken_kept, kept_broken}
-use Rattle.promises.proofs.ByClause.ClausesEnough.{kept-sound}
-use Rattle.promises.proofs.ByClause.ClausesNeeded.{sound-kept}
+use Rattle.promises.proofs.ByClause.ClausesEnough.{kept_sound}
+use Rattle.promises.proofs.ByClause.ClausesNeeded.{sound_kept}
 
 -- the test says yes of a set exactly where it breaks no clause; how long the arrays are the code's types say
 pub clauses_sound : (s : Set) → length s.timers ≡ cap → length s.heap.entries ≡ cap → length s.heap.slots ≡ cap
     → (sound_of s ≡ true → broken s ≡ []) × (broken s ≡ [] → sound_of s ≡ true)
 clauses_sound s n m k = (
-  λ e. kept_broken s (sound-kept s n m k (sound-told s n m k e)),
-  λ e. sound-tells s (kept-sound s n m k (broken_kept s e)),
+  λ e. kept_broken s (sound_kept s n m k (sound_told s n m k e)),
+  λ e. sound_tells s (kept_sound s n m k (broken_kept s e)),
 )

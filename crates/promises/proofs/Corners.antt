@@ -29,8 +29,8 @@ use Rattle.laws.specs.Unguarded.{unguarded}
 use Rattle.promises.specs.Corners.{Corner, poll, skip, calls, drain, names, Row, same_place, right_by, wrong_by, wrong, place, cancelled_at, alone, crowded, marked, last_uses, none_free, others, corners}
 use Rattle.laws.proofs.Soundness.Unguarded.{step_same}
 use Rattle.promises.proofs.Untested.{calls_same}
-use Rattle.promises.proofs.Drawn.Fitting.{few-fit}
-use Rattle.promises.proofs.Drawn.Crowded.{crowd, crowded-fit, add-full}
+use Rattle.promises.proofs.Drawn.Fitting.{few_fit}
+use Rattle.promises.proofs.Drawn.Crowded.{crowd, crowded_fit, add_full}
 
 -- WITHOUT THE TEST: the same rows are wrong
 
@@ -60,18 +60,18 @@ wrong_same (r ∷ rs) f = λ i. cond (right_same r.asked f.0 i) (wrong_same rs f
 -- every set in them fits; what is drawn of it tells, and of a crowded one a law
 alone_fit : (u : ℕ) → Fit (set_of (alone u))
 unfolding heap_of set_of nodes
-alone_fit u = few-fit (alone u) refl refl refl
+alone_fit u = few_fit (alone u) refl refl refl
 
 marked_fit : Fit (set_of marked)
 unfolding heap_of set_of nodes
-marked_fit = few-fit marked refl refl refl
+marked_fit = few_fit marked refl refl refl
 
 corners_fit : AllFit corners
 corners_fit =
     let a = alone_fit 4294967294 in
     let b = alone_fit 4294967295 in
-    let c = crowded-fit 4294967294 in
-    let d = crowded-fit 4294967295 in
+    let c = crowded_fit 4294967294 in
+    let d = crowded_fit 4294967295 in
     (a, (a, (b, (b, (c, (d, (tt, (tt, (tt, (tt, (marked_fit, (tt, (tt, (tt, (tt, (fresh_fit, (tt, (tt, (tt, (tt, (tt, tt)))))))))))))))))))))
 
 -- COMPUTED: the rows of sets of which few places are drawn, and of no set. Rows 1 and 2, then 5 to 10
@@ -87,44 +87,44 @@ given = record { life = Live 0 10; waiting = Last; held = Held.Nothing; uses = 4
 
 module _ (l : List ℕ) where
   -- the place is freed, and an add gets it; or it is retired
-  drained-freed : (cs : List Call) (ws : List (Answer Value))
+  drained_freed : (cs : List Call) (ws : List (Answer Value))
       → answered unguarded (lent (set_of (crowded 4294967294)) l) (C.Drain ∷ C.Add 10 ∷ cs) (accepted nothing ∷ accepted (handle (0 with_use 4294967295)) ∷ ws)
       ≡ answered unguarded (lent (crowd given (from 0)) l) cs ws
   unfolding spare set_of unguarded touched_of taken lowest_free settled_of drain_from first_bad
-  drained-freed cs ws = refl
+  drained_freed cs ws = refl
 
-  drained-retired : (cs : List Call) (ws : List (Answer Value))
+  drained_retired : (cs : List Call) (ws : List (Answer Value))
       → answered unguarded (lent (set_of (crowded 4294967295)) l) (C.Drain ∷ cs) (accepted nothing ∷ ws)
       ≡ answered unguarded (lent (crowd (place Retired 4294967295) nobody) l) cs ws
   unfolding spare set_of unguarded settled_of drain_from
-  drained-retired cs ws = refl
+  drained_retired cs ws = refl
 
   -- the first add finds no place
-  added-crowded : (u : ℕ) (cs : List Call) (ws : List (Answer Value))
+  added_crowded : (u : ℕ) (cs : List Call) (ws : List (Answer Value))
       → answered unguarded (lent (set_of (crowded u)) l) (C.Add 10 ∷ cs) (refused 4 ∷ ws) ≡ answered unguarded (lent (set_of (crowded u)) l) cs ws
   unfolding spare set_of
-  added-crowded u cs ws = add-full (cancelled_at u) (from 0) refl l 10 cs ws
+  added_crowded u cs ws = add_full (cancelled_at u) (from 0) refl l 10 cs ws
 
   -- the two rows, whatever list is lent
-  row-freed : answered unguarded (lent (set_of (crowded 4294967294)) l) (C.Add 10 ∷ C.Drain ∷ C.Add 10 ∷ C.Add 10 ∷ [])
+  row_freed : answered unguarded (lent (set_of (crowded 4294967294)) l) (C.Add 10 ∷ C.Drain ∷ C.Add 10 ∷ C.Add 10 ∷ [])
       (refused 4 ∷ accepted nothing ∷ accepted (handle (0 with_use 4294967295)) ∷ refused 4 ∷ []) ≡ true
-  row-freed =
-      added-crowded 4294967294 (C.Drain ∷ C.Add 10 ∷ C.Add 10 ∷ [])
+  row_freed =
+      added_crowded 4294967294 (C.Drain ∷ C.Add 10 ∷ C.Add 10 ∷ [])
       (accepted nothing ∷ accepted (handle (0 with_use 4294967295)) ∷ refused 4 ∷ [])
-      ∙ drained-freed (C.Add 10 ∷ []) (refused 4 ∷ [])
-      ∙ add-full given (from 0) refl l 10 [] []
+      ∙ drained_freed (C.Add 10 ∷ []) (refused 4 ∷ [])
+      ∙ add_full given (from 0) refl l 10 [] []
 
-  row-retired : answered unguarded (lent (set_of (crowded 4294967295)) l) (C.Add 10 ∷ C.Drain ∷ C.Add 10 ∷ [])
+  row_retired : answered unguarded (lent (set_of (crowded 4294967295)) l) (C.Add 10 ∷ C.Drain ∷ C.Add 10 ∷ [])
       (refused 4 ∷ accepted nothing ∷ refused 4 ∷ []) ≡ true
-  row-retired =
-      added-crowded 4294967295 (C.Drain ∷ C.Add 10 ∷ []) (accepted nothing ∷ refused 4 ∷ [])
-      ∙ drained-retired (C.Add 10 ∷ []) (refused 4 ∷ [])
-      ∙ add-full (place Retired 4294967295) nobody refl l 10 [] []
+  row_retired =
+      added_crowded 4294967295 (C.Drain ∷ C.Add 10 ∷ []) (accepted nothing ∷ refused 4 ∷ [])
+      ∙ drained_retired (C.Add 10 ∷ []) (refused 4 ∷ [])
+      ∙ add_full (place Retired 4294967295) nobody refl l 10 [] []
 
 crowded_rows : wrong_by unguarded none_free ≡ []
 crowded_rows =
     let l : List ℕ = replicate cap 0 in
-    ap₂ (λ (b : Bool) (ns : List ℕ). cond b ns (3 ∷ ns)) (row-freed l) (ap (λ (b : Bool). cond b [] (4 ∷ [])) (row-retired l))
+    ap₂ (λ (b : Bool) (ns : List ℕ). cond b ns (3 ∷ ns)) (row_freed l) (ap (λ (b : Bool). cond b [] (4 ∷ [])) (row_retired l))
 
 -- ALL: of two lists of rows together those are wrong that are wrong of each
 wrong_append : (way : Way) (rs qs : List Row) → wrong_by way (rs ++ qs) ≡ wrong_by way rs ++ wrong_by way qs

@@ -13,9 +13,9 @@ use lib.IntN.{ℤ}
 use Rattle.theory.specs.Tests.{bit}
 use Rattle.theory.specs.Occurs.{times}
 use Rattle.theory.specs.Least.{through}
-use Rattle.theory.proofs.Least.{Told, least-told}
+use Rattle.theory.proofs.Least.{Told, least_told}
 use Rattle.theory.proofs.Tests.{none_some, true_false, and_left, and_right, is_false, ref_true, true_ref, ref_le}
-use Rattle.theory.proofs.Occurs.{times-same}
+use Rattle.theory.proofs.Occurs.{times_same}
 use Rattle.refusals.specs.declared.Refusal.TheVariants.{Unsound, Closed}
 use Rattle.refusals.specs.declared.fault.Fault.{Fault}
 use Rattle.refusals.proofs.Refusing.{never}
@@ -30,7 +30,7 @@ use Rattle.state.specs.declared.Set.{Set}
 use Rattle.state.specs.declared.Handle.{Handle}
 use Rattle.state.specs.Handles.{handle_discrete}
 use Rattle.state.specs.Faults.{fault_of, sound_of}
-use Rattle.state.proofs.Test.{sound-tells}
+use Rattle.state.proofs.Test.{sound_tells}
 use Rattle.timers.specs.declared.Call.{Call}
 use Rattle.timers.specs.declared.Call.TheVariants as C
 use Rattle.timers.specs.Calls.{judged, Timing, live_at, living, door_of}
@@ -38,7 +38,7 @@ use Rattle.timers.specs.Left.{left_at, time_left_by, time_left_of, pending_at, o
 use Rattle.timers.proofs.Guarding.{sound_none}
 use Rattle.timers.proofs.Shortest.{least_open}
 use Rattle.laws.specs.EntryOf.{entry_of, waiting}
-use Rattle.laws.proofs.Handles.Pending.{pending_place, handle_of, place_pending, left-of, left-closed, least-closed}
+use Rattle.laws.proofs.Handles.Pending.{pending_place, handle_of, place_pending, left_of, left_closed, least_closed}
 use Rattle.promises.specs.Turns.{Line, Ledger, Seen, seen, owed, Exact, Least, run, Accepted, Bounded}
 use Rattle.promises.specs.Engine.{ours}
 use Rattle.promises.specs.Display.{over, shown_for, Shown}
@@ -49,8 +49,8 @@ use Rattle.promises.proofs.Engine.{moment}
 
 -- a live timer is owed exactly where it has not fired
 module _ (B : Type 0) (t : Timing) (wait : Bool) (o : Option Entry) (l : Line) (k : Living B t wait o l) where
-  owed-is : owed l ≡ not (fired_in t.word)
-  owed-is = (λ i. k.known i && not l.reported) ∙ ap not (sym (ap fired_in k.word_is ∙ reported_fired k.generation l.reported))
+  owed_is : owed l ≡ not (fired_in t.word)
+  owed_is = (λ i. k.known i && not l.reported) ∙ ap not (sym (ap fired_in k.word_is ∙ reported_fired k.generation l.reported))
 
 module _ (B : Type 0) (s : Set) (L : Ledger) (ok : sound_of s ≡ true) (c : s.closed ≡ false) (tracks : Tracks B s L) where
   -- what a handle that is owed names
@@ -68,7 +68,7 @@ module _ (B : Type 0) (s : Set) (L : Ledger) (ok : sound_of s ≡ true) (c : s.c
       go (some t) e k = record {
         timing = t;
         found = e;
-        unfired = not-true _ (sym (owed-is B t _ _ (L.line h) k) ∙ y);
+        unfired = not-true _ (sym (owed_is B t _ _ (L.line h) k) ∙ y);
         same_due = k.agreed;
       }
 
@@ -77,12 +77,12 @@ module _ (B : Type 0) (s : Set) (L : Ledger) (ok : sound_of s ≡ true) (c : s.c
   line_of h t e = subst (λ (o : Option Timing). Stands B o (waiting s h.place.0) (entry_of s h.place.0) (L.line h)) e (tracks h)
 
   owed_back : (h : Handle) (t : Timing) → live_at s h ≡ some t → fired_in t.word ≡ false → owed (L.line h) ≡ true
-  owed_back h t e u = owed-is B t _ _ (L.line h) (line_of h t e) ∙ ap not u
+  owed_back h t e u = owed_is B t _ _ (L.line h) (line_of h t e) ∙ ap not u
 
   -- the earliest deadline that counts is the least owed
-  soonest-least : Least L (soonest_of s)
+  soonest_least : Least L (soonest_of s)
   unfolding soonest_of
-  soonest-least = go (soonest_of s) (least-told (pending_at s) cap)
+  soonest_least = go (soonest_of s) (least_told (pending_at s) cap)
     where
       go : (o : Option ℕ) → Told (pending_at s) cap o → Least L o
       go none k =
@@ -118,7 +118,7 @@ module _ (B : Type 0) (s : Set) (L : Ledger) (ok : sound_of s ≡ true) (c : s.c
           → time_left_of s h N ≡ cond (L.line h).live (difference_of (L.line h).due N) (refused 3)
       go none e k = dead (fault_of s) s.closed (live_at s h) (sound_none s ok) c e ∙ sym (ap (λ (b : Bool). cond b (difference_of (L.line h).due N) (refused 3)) k)
       go (some t) e k =
-          left-of s N h t ok c e ∙ sym (ap (λ (b : Bool). cond b (difference_of (L.line h).due N) (refused 3)) k.known ∙ ap (λ (d : ℕ). difference_of d N) k.agreed)
+          left_of s N h t ok c e ∙ sym (ap (λ (b : Bool). cond b (difference_of (L.line h).due N) (refused 3)) k.known ∙ ap (λ (d : ℕ). difference_of d N) k.agreed)
 
 -- a deadline minus the reading is zero or less exactly where the deadline is not past it
 over_due : (N d : ℕ) (z : ℤ) → difference_of d N ≡ accepted z → over z ≡ leb d N
@@ -126,8 +126,8 @@ over_due N d z e = ap over (difference_value d N z e) ∙ minus_over N d
 
 module _ (L : Ledger) (N : ℕ) (a : Seen) (e : Exact L owed N a) where
   -- a turn's reports, and the deadline of each timer that is owed
-  reported-due : (h : Handle) → owed (L.line h) ≡ true → times handle_discrete h a.reports ≡ bit (leb (L.line h).due N)
-  reported-due h y = e.each_once h ∙ ap (λ (b : Bool). bit (b && leb (L.line h).due N)) y
+  reported_due : (h : Handle) → owed (L.line h) ≡ true → times handle_discrete h a.reports ≡ bit (leb (L.line h).due N)
+  reported_due h y = e.each_once h ∙ ap (λ (b : Bool). bit (b && leb (L.line h).due N)) y
 
   -- nobody is reported: the least deadline owed is past the reading
   unheard : (d : ℕ) → Least L (some d) → a.reports ≡ [] → leb d N ≡ false
@@ -136,7 +136,7 @@ module _ (L : Ledger) (N : ℕ) (a : Seen) (e : Exact L owed N a) where
       is_false (leb d N)
       (λ y. let h = k.0.0 in
       let m : leb (L.line h).due N ≡ true = ap (λ (x : ℕ). leb x N) k.0.2 ∙ y in
-      let n : 0 ≡ 1 = ap (times handle_discrete h) (sym z) ∙ reported-due h k.0.1 ∙ ap bit m in
+      let n : 0 ≡ 1 = ap (times handle_discrete h) (sym z) ∙ reported_due h k.0.1 ∙ ap bit m in
       omega arith)
 
   one : (b : Bool) (n : ℕ) → suc n ≡ bit b → b ≡ true
@@ -147,26 +147,26 @@ module _ (L : Ledger) (N : ℕ) (a : Seen) (e : Exact L owed N a) where
   heard : (h : Handle) (hs : List Handle) → a.reports ≡ h ∷ hs → owed (L.line h) && leb (L.line h).due N ≡ true
   heard h hs q =
       one (owed (L.line h) && leb (L.line h).due N) (times handle_discrete h hs)
-      (sym (times-same handle_discrete h hs) ∙ ap (times handle_discrete h) (sym q) ∙ e.each_once h)
+      (sym (times_same handle_discrete h hs) ∙ ap (times handle_discrete h) (sym q) ∙ e.each_once h)
 
   -- so where no deadline owed is due, nobody is
-  none-due : ((h : Handle) → owed (L.line h) ≡ true → leb (L.line h).due N ≡ true → ⊥) → a.reports ≡ []
-  none-due out = go a.reports refl
+  none_due : ((h : Handle) → owed (L.line h) ≡ true → leb (L.line h).due N ≡ true → ⊥) → a.reports ≡ []
+  none_due out = go a.reports refl
     where
       go : (hs : List Handle) → a.reports ≡ hs → hs ≡ []
       go [] q = refl
       go (h ∷ hs) q = let y = heard h hs q in absurd (out h (and_left (owed (L.line h)) _ y) (and_right (owed (L.line h)) _ y))
 
   -- the least deadline owed, and none
-  past-due : (d : ℕ) → Least L (some d) → leb d N ≡ false → a.reports ≡ []
-  past-due d k z =
-      none-due
+  past_due : (d : ℕ) → Least L (some d) → leb d N ≡ false → a.reports ≡ []
+  past_due d k z =
+      none_due
       (λ h y b. let m = k.1 h y in
       let n = ref_true (ref_le (L.line h).due N) b in
       true_false (true_ref (ref_le d N) (omega arith)) z)
 
-  nobody-due : Least L none → a.reports ≡ []
-  nobody-due k = none-due (λ h y b. true_false y (k h))
+  nobody_due : Least L none → a.reports ≡ []
+  nobody_due k = none_due (λ h y b. true_false y (k h))
 
 -- what is shown for a deadline, read back
 shown_some : (N : ℕ) (o : Option ℕ) (z : ℤ) → shown_for N o ≡ accepted (some z) → (d : ℕ) × (o ≡ some d) × (difference_of d N ≡ accepted z)
@@ -201,15 +201,15 @@ display cs yet N = record {
   is_least = least;
   least = shows;
   reported = λ l a h y z e.
-      reported-due L N _ (exact l a) h y
+      reported_due L N _ (exact l a) h y
       ∙ ap bit (sym (over_due N (L.line h).due z
       (sym (each h ∙ ap (λ (b : Bool). cond b (difference_of (L.line h).due N) (refused 3)) (and_left (L.line h).live _ y)) ∙ e)));
   silent = λ l a z e.
       let k = shown_some N (soonest_of s) z (sym shows ∙ e) in
       let m = subst (Least L) k.1 least in
       let v = over_due N k.0 z k.2 in
-      (λ q. v ∙ unheard L N _ (exact l a) k.0 m q, λ q. past-due L N _ (exact l a) k.0 m (sym v ∙ q));
-  nobody = λ l a e. nobody-due L N _ (exact l a) (subst (Least L) (shown_none N (soonest_of s) (sym shows ∙ e)) least);
+      (λ q. v ∙ unheard L N _ (exact l a) k.0 m q, λ q. past_due L N _ (exact l a) k.0 m (sym v ∙ q));
+  nobody = λ l a e. nobody_due L N _ (exact l a) (subst (Least L) (shown_none N (soonest_of s) (sym shows ∙ e)) least);
 }
   where
     B : Type 0
@@ -225,7 +225,7 @@ display cs yet N = record {
     g = run_good cs
 
     ok : sound_of s ≡ true
-    ok = sound-tells s g.fit.sound
+    ok = sound_tells s g.fit.sound
 
     c : s.closed ≡ false
     c = g.follows.closed_too ∙ yet
@@ -234,7 +234,7 @@ display cs yet N = record {
     tracks = g.follows.tracks yet
 
     least : Least L (soonest_of s)
-    least = soonest-least B s L ok c tracks
+    least = soonest_least B s L ok c tracks
 
     each : (h : Handle) → time_left_of s h N ≡ cond (L.line h).live (difference_of (L.line h).due N) (refused 3)
     each = shown B s L ok c tracks N
@@ -252,5 +252,5 @@ pub display_closed : (cs : List (Call × List ℕ)) → (run ours cs).ledger.clo
 display_closed cs was h N =
     let g = run_good cs in
     let s = (run ours cs).state in
-    let ok = sound-tells s g.fit.sound in
-    let c : s.closed ≡ true = g.follows.closed_too ∙ was in (left-closed s N h ok c, least-closed s N ok c)
+    let ok = sound_tells s g.fit.sound in
+    let c : s.closed ≡ true = g.follows.closed_too ∙ was in (left_closed s N h ok c, least_closed s N ok c)

@@ -61,27 +61,27 @@ module _ (s : Set) (y : Fault) (e : Set.fault_of s ≡ some y) where
   unfolding guarded
   stops k o = rw e refl
 
-  call-told : (c : Call) (l : List ℕ) → fault_in (step s c l).answer ≡ some y
+  call_told : (c : Call) (l : List ℕ) → fault_in (step s c l).answer ≡ some y
   unfolding step add_of reset_of cancel_of drain_of advance_of turn_of next_wake_of poll_of close_of tick_at restart_at
-  call-told (C.Add d) l = stops s _
-  call-told (C.Reset h d) l = stops s _
-  call-told (C.Cancel h) l = stops s _
-  call-told C.Drain l = stops s _
-  call-told (C.Advance N) l = stops (lent s l) _
-  call-told (C.Turn N) l = stops (lent s l) _
-  call-told C.NextWake l = stops s _
-  call-told (C.Poll h) l = stops s _
-  call-told C.Close l = stops s _
-  call-told (C.Tick h p period N) l = stops s _
-  call-told (C.Restart h period N) l = stops s _
+  call_told (C.Add d) l = stops s _
+  call_told (C.Reset h d) l = stops s _
+  call_told (C.Cancel h) l = stops s _
+  call_told C.Drain l = stops s _
+  call_told (C.Advance N) l = stops (lent s l) _
+  call_told (C.Turn N) l = stops (lent s l) _
+  call_told C.NextWake l = stops s _
+  call_told (C.Poll h) l = stops s _
+  call_told C.Close l = stops s _
+  call_told (C.Tick h p period N) l = stops s _
+  call_told (C.Restart h period N) l = stops s _
 
-  left-told : (h : Handle) (N : ℕ) → fault_in (time_left_of s h N) ≡ some y
+  left_told : (h : Handle) (N : ℕ) → fault_in (time_left_of s h N) ≡ some y
   unfolding time_left_of door_of
-  left-told h N = rw e refl
+  left_told h N = rw e refl
 
-  least-told : (N : ℕ) → fault_in (least_left_of s N) ≡ some y
+  least_told : (N : ℕ) → fault_in (least_left_of s N) ≡ some y
   unfolding least_left_of
-  least-told N = rw e refl
+  least_told N = rw e refl
 
 -- OF A HEAP
 
@@ -90,13 +90,13 @@ unfolding Heap.consistent_of
 consistent_whole h e = rw e refl
 
 module _ (h : Heap) (y : Fault) (e : Heap.fault_of h ≡ some y) where
-  heap-told : {A : Type 0} (o : Outcome Heap A) → fault_in (Heaps.guarded h o).answer ≡ some y
+  heap_told : {A : Type 0} (o : Outcome Heap A) → fault_in (Heaps.guarded h o).answer ≡ some y
   unfolding Heaps.guard_of
-  heap-told o = rw e refl
+  heap_told o = rw e refl
 
-  peek-told : fault_in (Heaps.peek_of h) ≡ some y
+  peek_told : fault_in (Heaps.peek_of h) ≡ some y
   unfolding Heaps.guard_of
-  peek-told = rw e refl
+  peek_told = rw e refl
 
 -- by what the test finds
 by_test : (q : Asked) (o : Option Fault) → (o ≡ none → rowb q 1 ≡ false) → ((y : Fault) → o ≡ some y → fault_in (answer_to q) ≡ some y)
@@ -108,14 +108,14 @@ by_test q (some y) n s = s y refl
 pub faults : (q : Asked) → fault_in (answer_to q) ≡ fault_asked q
 unfolding held_in
 faults (heap_push h at g place) =
-    by_test (heap_push h at g place) (Heap.fault_of h) (consistent_whole h) (λ y e. heap-told h y e (Heaps.push_sound h at g place))
-faults (heap_remove h s) = by_test (heap_remove h s) (Heap.fault_of h) (consistent_whole h) (λ y e. heap-told h y e (Heaps.remove_sound h s))
-faults (heap_pop h) = by_test (heap_pop h) (Heap.fault_of h) (consistent_whole h) (λ y e. heap-told h y e (Heaps.pop_sound h))
-faults (heap_peek h) = by_test (heap_peek h) (Heap.fault_of h) (consistent_whole h) (peek-told h)
+    by_test (heap_push h at g place) (Heap.fault_of h) (consistent_whole h) (λ y e. heap_told h y e (Heaps.push_sound h at g place))
+faults (heap_remove h s) = by_test (heap_remove h s) (Heap.fault_of h) (consistent_whole h) (λ y e. heap_told h y e (Heaps.remove_sound h s))
+faults (heap_pop h) = by_test (heap_pop h) (Heap.fault_of h) (consistent_whole h) (λ y e. heap_told h y e (Heaps.pop_sound h))
+faults (heap_peek h) = by_test (heap_peek h) (Heap.fault_of h) (consistent_whole h) (peek_told h)
 faults (on_set s c l) =
-    by_test (on_set s c l) (Set.fault_of s) (λ e. first_row_lem s c l ∙ whole s e) (λ y e. call-told s y e c l)
-faults (time_left s h N) = by_test (time_left s h N) (Set.fault_of s) (whole s) (λ y e. left-told s y e h N)
-faults (least_left s N) = by_test (least_left s N) (Set.fault_of s) (whole s) (λ y e. least-told s y e N)
+    by_test (on_set s c l) (Set.fault_of s) (λ e. first_row_lem s c l ∙ whole s e) (λ y e. call_told s y e c l)
+faults (time_left s h N) = by_test (time_left s h N) (Set.fault_of s) (whole s) (λ y e. left_told s y e h N)
+faults (least_left s N) = by_test (least_left s N) (Set.fault_of s) (whole s) (λ y e. least_told s y e N)
 faults (clock_reading c raw) = no_row (clock_reading c raw) refl
 faults (clock_pause c raw) = no_row (clock_pause c raw) refl
 faults (clock_resume c raw) = no_row (clock_resume c raw) refl

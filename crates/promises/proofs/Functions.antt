@@ -26,51 +26,51 @@ pub fresh_begins : (r : Set) → State.Fresh r → r ≡ ours.fresh
 fresh_begins r p = p
 
 module _ (s : Set) (r : After) (m : List ℕ) where
-  pub add-steps : (d : ℕ) → Timers.Adds s d r → alone r m ≡ ours.step s (C.Add d) m
+  pub add_steps : (d : ℕ) → Timers.Adds s d r → alone r m ≡ ours.step s (C.Add d) m
   unfolding step
-  add-steps d p = ap (λ (o : Outcome Set Value). handed (with_list m o)) p
+  add_steps d p = ap (λ (o : Outcome Set Value). handed (with_list m o)) p
 
-  pub reset-steps : (h : Handle) (d : ℕ) → Timers.Resets s h d r → alone r m ≡ ours.step s (C.Reset h d) m
+  pub reset_steps : (h : Handle) (d : ℕ) → Timers.Resets s h d r → alone r m ≡ ours.step s (C.Reset h d) m
   unfolding step
-  reset-steps h d p = ap (λ (o : Outcome Set Value). handed (with_list m o)) p
+  reset_steps h d p = ap (λ (o : Outcome Set Value). handed (with_list m o)) p
 
-  pub cancel-steps : (h : Handle) → Timers.Cancels s h r → alone r m ≡ ours.step s (C.Cancel h) m
+  pub cancel_steps : (h : Handle) → Timers.Cancels s h r → alone r m ≡ ours.step s (C.Cancel h) m
   unfolding step
-  cancel-steps h p = ap (λ (o : Outcome Set Value). handed (with_list m o)) p
+  cancel_steps h p = ap (λ (o : Outcome Set Value). handed (with_list m o)) p
 
   pub drain_steps : Timers.Drains s r → alone r m ≡ ours.step s C.Drain m
   unfolding step
   drain_steps p = ap (λ (o : Outcome Set Value). handed (with_list m o)) p
 
-  pub next-wake-steps : Timers.Wakes s r → alone r m ≡ ours.step s C.NextWake m
+  pub next_wake_steps : Timers.Wakes s r → alone r m ≡ ours.step s C.NextWake m
   unfolding step
-  next-wake-steps p = ap (λ (o : Outcome Set Value). handed (with_list m o)) p
+  next_wake_steps p = ap (λ (o : Outcome Set Value). handed (with_list m o)) p
 
-  pub poll-steps : (h : Handle) → Timers.Polls s h r → alone r m ≡ ours.step s (C.Poll h) m
+  pub poll_steps : (h : Handle) → Timers.Polls s h r → alone r m ≡ ours.step s (C.Poll h) m
   unfolding step
-  poll-steps h p = ap (λ (o : Outcome Set Value). handed (with_list m o)) p
+  poll_steps h p = ap (λ (o : Outcome Set Value). handed (with_list m o)) p
 
-  pub close-steps : Timers.Closes s r → alone r m ≡ ours.step s C.Close m
+  pub close_steps : Timers.Closes s r → alone r m ≡ ours.step s C.Close m
   unfolding step
-  close-steps p = ap (λ (o : Outcome Set Value). handed (with_list m o)) p
+  close_steps p = ap (λ (o : Outcome Set Value). handed (with_list m o)) p
 
-  pub tick-steps : (h : Handle) (p : Policy) (period N : ℕ) → Timers.Ticks s h p period N r → alone r m ≡ ours.step s (C.Tick h p period N) m
+  pub tick_steps : (h : Handle) (p : Policy) (period N : ℕ) → Timers.Ticks s h p period N r → alone r m ≡ ours.step s (C.Tick h p period N) m
   unfolding step
-  tick-steps h p period N q = ap (λ (o : Outcome Set Value). handed (with_list m o)) q
+  tick_steps h p period N q = ap (λ (o : Outcome Set Value). handed (with_list m o)) q
 
-  pub restart-steps : (h : Handle) (period N : ℕ) → Timers.Restarts s h period N r → alone r m ≡ ours.step s (C.Restart h period N) m
+  pub restart_steps : (h : Handle) (period N : ℕ) → Timers.Restarts s h period N r → alone r m ≡ ours.step s (C.Restart h period N) m
   unfolding step
-  restart-steps h period N q = ap (λ (o : Outcome Set Value). handed (with_list m o)) q
+  restart_steps h period N q = ap (λ (o : Outcome Set Value). handed (with_list m o)) q
 
   -- an advance and a turn that are lent the list l and leave it as m
-  pub advance-steps : (N : ℕ) (l : List ℕ) → Timers.Advances s N l r m → handed (told_with r m) ≡ ours.step s (C.Advance N) l
+  pub advance_steps : (N : ℕ) (l : List ℕ) → Timers.Advances s N l r m → handed (told_with r m) ≡ ours.step s (C.Advance N) l
   unfolding step
-  advance-steps N l p = ap handed p
+  advance_steps N l p = ap handed p
 
-  pub turn-steps : (N : ℕ) (l : List ℕ) → Timers.Turns s N l r m → handed (told_with r m) ≡ ours.step s (C.Turn N) l
+  pub turn_steps : (N : ℕ) (l : List ℕ) → Timers.Turns s N l r m → handed (told_with r m) ≡ ours.step s (C.Turn N) l
   unfolding step
-  turn-steps N l p = ap handed p
+  turn_steps N l p = ap handed p
 
   -- any call by its name
-  pub perform-steps : (c : Call) (l : List ℕ) → Timers.Performs s c l r m → handed (told_with r m) ≡ ours.step s c l
-  perform-steps c l p = ap handed p
+  pub perform_steps : (c : Call) (l : List ℕ) → Timers.Performs s c l r m → handed (told_with r m) ≡ ours.step s c l
+  perform_steps c l p = ap handed p

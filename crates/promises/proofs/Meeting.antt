@@ -34,10 +34,10 @@ turn_noted N a L e = rw e refl
 
 module _ (E : Engine) where
   -- calls, and then more calls
-  pub from-append : (cs ds : List (Call × List ℕ)) (r : Run E) → from E r (cs ++ ds) ≡ from E (from E r cs) ds
+  pub from_append : (cs ds : List (Call × List ℕ)) (r : Run E) → from E r (cs ++ ds) ≡ from E (from E r cs) ds
   unfolding from
-  from-append [] ds r = refl
-  from-append (c ∷ cs) ds r = from-append cs ds (next E r c.0 c.1)
+  from_append [] ds r = refl
+  from_append (c ∷ cs) ds r = from_append cs ds (next E r c.0 c.1)
 
   -- the premise, with a call more
   bounded_more : (cs : List (Call × List ℕ)) (r : Run E) (c : Call × List ℕ) → Bounded E r cs
@@ -55,11 +55,11 @@ module _ (E : Engine) where
 
     -- before a close a turn and an advance with room in the list are accepted
     module _ (r : Run E) (P : Type 0) (k : Moment E asked r P) (yet : r.ledger.closed ≡ false) (l : List ℕ) (room : cap ≤ length l) where
-      pub turn-accepted : (N : ℕ) → asked (C.Turn N) ≡ true → Accepted E r (C.Turn N) l
-      turn-accepted N a = counting_accepted _ (rw (yet, le-ltb (length l) cap room) at (k.answers (C.Turn N) l a))
+      pub turn_accepted : (N : ℕ) → asked (C.Turn N) ≡ true → Accepted E r (C.Turn N) l
+      turn_accepted N a = counting_accepted _ (rw (yet, le-ltb (length l) cap room) at (k.answers (C.Turn N) l a))
 
-      pub advance-accepted : (N : ℕ) → asked (C.Advance N) ≡ true → Accepted E r (C.Advance N) l
-      advance-accepted N a = counting_accepted _ (rw (yet, le-ltb (length l) cap room) at (k.answers (C.Advance N) l a))
+      pub advance_accepted : (N : ℕ) → asked (C.Advance N) ≡ true → Accepted E r (C.Advance N) l
+      advance_accepted N a = counting_accepted _ (rw (yet, le-ltb (length l) cap room) at (k.answers (C.Advance N) l a))
 
     -- after any calls before a close, and then an accepted turn, the next wake is the least deadline still owed
     pub wake_after_turn : Meets E asked → (cs : List (Call × List ℕ)) → all_asked asked cs ≡ true → (run E cs).ledger.closed ≡ false → Bounded E (run E []) cs
@@ -69,7 +69,7 @@ module _ (E : Engine) where
     wake_after_turn k cs a yet b N l m turn-asked wake-asked ok =
         let c : Call × List ℕ = (C.Turn N, l) in
         let q = next E (run E cs) (C.Turn N) l in
-        let e : run E (cs ++ (c ∷ [])) ≡ q = from-append cs (c ∷ []) (run E []) in
+        let e : run E (cs ++ (c ∷ [])) ≡ q = from_append cs (c ∷ []) (run E []) in
         let z = turn_noted N (seen (E.step (run E cs).state (C.Turn N) l)) (run E cs).ledger ok in
         let here = subst (λ (r : Run E). Moment E asked r (Bounded E (run E []) (cs ++ (c ∷ [])))) e (k (cs ++ (c ∷ [])) (asked_more cs c a turn-asked)) in
         here.wakes m wake-asked

@@ -24,7 +24,7 @@ use Rattle.timers.specs.Values.{Value, handle_in}
 use Rattle.promises.specs.Bench.{◌with_use◌}
 use Rattle.promises.specs.Turns.{Engine, Ledger, begun, added, note, taken_by, taken_in, added_at, Answers, while_open, once_closed, next, from, run, all_asked, Meets, every}
 use Rattle.promises.specs.Untested.{untested}
-use Rattle.promises.proofs.Meeting.{from-append}
+use Rattle.promises.proofs.Meeting.{from_append}
 use Rattle.promises.specs.Useless.{one_place_more, overfull}
 
 -- the first number of a scan that fails, where those before it pass
@@ -100,7 +100,7 @@ fill E v m (suc n) k e cs f = go (taken_in (run E cs).ledger k) refl (fill E v m
         let L = (run E cs).ledger in
         let a = add_answers E m cs (some k) f.unclosed (first_at (taken_in L) cap 0 k (omega arith) (omega arith) (λ j x b. f.below j b) q) in
         more (cs ++ (C.Add 10, []) ∷ [])
-        (subst (λ r. Filled (suc k) r.ledger) (sym (from-append E cs ((C.Add 10, []) ∷ []) (run E [])))
+        (subst (λ r. Filled (suc k) r.ledger) (sym (from_append E cs ((C.Add 10, []) ∷ []) (run E [])))
         (subst (λ x. Filled (suc k) (cond (is_accepted x) (added (handle_in x) 10 L) L)) (sym a) (one_more_lem L k f)))
 
 -- an engine that never refuses an add with 4: an add for each place, and one more

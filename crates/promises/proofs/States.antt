@@ -12,11 +12,11 @@ use Rattle.heap.specs.Capacity.{cap}
 use Rattle.heap.specs.Faults.{count_ok, count_fault, fault_of, consistent_of}
 use Rattle.promises.specs.States.{heap_of, full, empty, entry, live, in_slot, entries_from, Row, row, right, rows, brimful, few, wrong}
 use Rattle.promises.proofs.Drawn.Small.{few_right}
-use Rattle.promises.proofs.Drawn.Numbered.{numbered-length}
+use Rattle.promises.proofs.Drawn.Numbered.{numbered_length}
 use Rattle.promises.proofs.Drawn.Full.{full_of}
 use Rattle.promises.proofs.Drawn.FullKept.{full_none, full_some}
 use Rattle.promises.proofs.Drawn.Emptied.{emptied, emptied_none, emptied_some}
-use Rattle.promises.proofs.Drawn.Tested.{both, tested-by, none-tested, wrong_right, wrong_few, wrong_both}
+use Rattle.promises.proofs.Drawn.Tested.{both, tested_by, none_tested, wrong_right, wrong_few, wrong_both}
 
 -- the row of a full heap, and that of a heap whose slots are all empty
 abbrev full_row : Row
@@ -29,18 +29,18 @@ emptied_row = row 2 (emptied cap) (emptied (cap + 1)) (12 ∷ [])
 full_right : right full_row ≡ true
 unfolding heap_of consistent_of fault_of count_fault count_ok
 full_right =
-    let t = numbered-length (λ i. live No (in_slot i)) cap 0 in
-    let e = numbered-length (λ i. entry 5 i i) cap 0 in
-    let q = numbered-length full cap 0 in
-    both (none-tested (full_of (length (entries_from cap 0))) (omega (arith, t)) (omega (arith, e)) (omega (arith, q)) full_none)
-    (tested-by (full_of (cap + 1)) (omega (arith, t)) (omega (arith, e)) (omega (arith, q)) (11 ∷ 13 ∷ []) refl full_some)
+    let t = numbered_length (λ i. live No (in_slot i)) cap 0 in
+    let e = numbered_length (λ i. entry 5 i i) cap 0 in
+    let q = numbered_length full cap 0 in
+    both (none_tested (full_of (length (entries_from cap 0))) (omega (arith, t)) (omega (arith, e)) (omega (arith, q)) full_none)
+    (tested_by (full_of (cap + 1)) (omega (arith, t)) (omega (arith, e)) (omega (arith, q)) (11 ∷ 13 ∷ []) refl full_some)
 
 emptied_right : right emptied_row ≡ true
 unfolding heap_of consistent_of fault_of count_fault count_ok
 emptied_right =
-    let q = numbered-length empty (cap - 1) 0 in
-    both (none-tested (emptied cap) (omega arith) (omega arith) (omega (arith, q)) emptied_none)
-    (tested-by (emptied (cap + 1)) (omega arith) (omega arith) (omega (arith, q)) (12 ∷ []) refl emptied_some)
+    let q = numbered_length empty (cap - 1) 0 in
+    both (none_tested (emptied cap) (omega arith) (omega arith) (omega (arith, q)) emptied_none)
+    (tested_by (emptied (cap + 1)) (omega arith) (omega arith) (omega (arith, q)) (12 ∷ []) refl emptied_some)
 
 brimful_right : wrong brimful ≡ []
 brimful_right = wrong_right full_row (emptied_row ∷ []) full_right (wrong_right emptied_row [] emptied_right refl)

@@ -16,18 +16,18 @@ use Rattle.timers.specs.Calls.{step, add_of, reset_of, cancel_of, drain_of, adva
 use Rattle.promises.specs.Table.{Asked, heap_push, heap_remove, heap_pop, heap_peek, on_set, time_left, least_left, clock_reading, clock_pause, clock_resume, clock_advance, a_record, Gives, answer_to, refusal_in, rows_on, rows_of, held_in, rowb, in_turn, first_in, first_row, Decides}
 use Rattle.promises.proofs.Refusing.Rows.{unsound_row, closed_row, dead_row, full_row, short_row, ticked_row, restarted_row}
 use Rattle.promises.proofs.Refusing.RowsLeft.{time_left_row, least_left_row}
-use Rattle.promises.proofs.Refusing.RowsHeap.{inconsistent-row, push_row, remove-row, pop-row, peek-row}
+use Rattle.promises.proofs.Refusing.RowsHeap.{inconsistent_row, push_row, remove_row, pop_row, peek_row}
 use Rattle.promises.proofs.Refusing.RowsClock.{reading_row, pause_row, advance_row}
 use Rattle.promises.proofs.Refusing.RowsRecord.{record_row}
-use Rattle.promises.proofs.Refusing.Leads.{found-leads, leads-found, none_passes, passes_none, within, held_within}
+use Rattle.promises.proofs.Refusing.Leads.{found_leads, leads_found, none_passes, passes_none, within, held_within}
 
 -- THE TABLE, both ways at once: the number with which what is asked is refused, or none, is that of the first row that holds, or none
 pub table : (q : Asked) → refusal_in (answer_to q) ≡ first_row q
 unfolding step add_of reset_of cancel_of drain_of advance_of turn_of next_wake_of poll_of close_of tick_at restart_at held_in first_in
-table (heap_push h at g place) = inconsistent-row h _ _ (push_row h at g place)
-table (heap_remove h s) = inconsistent-row h _ _ (λ _. remove-row h s)
-table (heap_pop h) = inconsistent-row h _ _ (pop-row h)
-table (heap_peek h) = peek-row h
+table (heap_push h at g place) = inconsistent_row h _ _ (push_row h at g place)
+table (heap_remove h s) = inconsistent_row h _ _ (λ _. remove_row h s)
+table (heap_pop h) = inconsistent_row h _ _ (pop_row h)
+table (heap_peek h) = peek_row h
 table (on_set s (C.Add d) l) = unsound_row s s _ _ (closed_row s s _ _ (full_row s d))
 table (on_set s (C.Reset h d) l) = unsound_row s s _ _ (closed_row s s _ _ (dead_row s h _ _ (λ t e f. refl)))
 table (on_set s (C.Cancel h) l) = unsound_row s s _ _ (closed_row s s _ _ (dead_row s h _ _ (λ t e f. refl)))
@@ -89,11 +89,11 @@ all_in_turn (a_record bytes) = refl
 
 -- what is refused with n: row n holds, and none before it
 pub refused_row : (q : Asked) (n : ℕ) → refusal_in (answer_to q) ≡ some n → Decides q n
-refused_row q n e = found-leads (rowb q) in_turn n (sym (table q) ∙ e)
+refused_row q n e = found_leads (rowb q) in_turn n (sym (table q) ∙ e)
 
 -- row n holds, and none before it: it is refused with n
 pub row_refused : (q : Asked) (n : ℕ) → Decides q n → refusal_in (answer_to q) ≡ some n
-row_refused q n t = table q ∙ leads-found (rowb q) in_turn n t
+row_refused q n t = table q ∙ leads_found (rowb q) in_turn n t
 
 -- of what is accepted no row holds
 pub accepted_no_row : (q : Asked) (v : Gives q) → answer_to q ≡ accepted v → (n : ℕ) → rowb q n ≡ false

@@ -18,7 +18,7 @@ use Rattle.timers.specs.declared.Call.TheVariants as C
 use Rattle.timers.specs.Values.{Value, nothing, handle, counts, wake, polled, time, handle_in}
 use Rattle.timers.specs.Calls.{Timing, add_of, step}
 use Rattle.laws.specs.EntryOf.{entry_of, waiting}
-use Rattle.laws.proofs.Handles.ByHandleCalls.{add-lives}
+use Rattle.laws.proofs.Handles.ByHandleCalls.{add_lives}
 use Rattle.promises.specs.Turns.{owed, seen, Run, next, from, run, Accepted}
 use Rattle.promises.specs.Engine.{ours}
 use Rattle.promises.specs.Timeouts.{LeftAlone, GoesOff}
@@ -26,7 +26,7 @@ use Rattle.promises.proofs.Ledger.Tracks.{Stands}
 use Rattle.promises.proofs.Ledger.TracksSteps.{Low}
 use Rattle.promises.proofs.Ledger.Runs.{Good, next_good, run_good}
 use Rattle.promises.proofs.Engine.{moment}
-use Rattle.promises.proofs.Meeting.{from-append}
+use Rattle.promises.proofs.Meeting.{from_append}
 use Rattle.promises.proofs.Ledger.Owing.{Owes, same_owes, note_owes, note_closed}
 
 -- an answer that has a handle is that of an add
@@ -47,11 +47,11 @@ closed_from (c ∷ cs) r e = closed_from cs (next ours r c.0 c.1) (note_closed c
 
 module _ (h : Handle) where
   -- a live handle is given to nobody else
-  not-given : (B : Type 0) (r : Run ours) → Good B r → r.ledger.closed ≡ false → owed (r.ledger.line h) ≡ true
+  not_given : (B : Type 0) (r : Run ours) → Good B r → r.ledger.closed ≡ false → owed (r.ledger.line h) ≡ true
       → (d : ℕ) (l : List ℕ) → handle_in (step r.state (C.Add d) l).answer ≡ some h → ⊥
   unfolding step
-  not-given B r g c y d l e =
-      let n = (add-lives r.state d h g.fit.words.long (handle_answer (add_of r.state d).answer h e)).0 in
+  not_given B r g c y d l e =
+      let n = (add_lives r.state d h g.fit.words.long (handle_answer (add_of r.state d).answer h e)).0 in
       true_false (and_left (r.ledger.line h).live (not (r.ledger.line h).reported) y)
       (subst (λ (o : Option Timing). Stands B o (waiting r.state h.place.0) (entry_of r.state h.place.0) (r.ledger.line h)) n (g.follows.tracks c h))
 
@@ -76,7 +76,7 @@ module _ (h : Handle) where
         where
           k : Owes (r.ledger.line h) ((next ours r x.0 x.1).ledger.line h)
           k = note_owes h x.0 (seen (ours.step r.state x.0 x.1)) r.ledger
-              (λ d q. subst (λ (c : Call). handle_in (step r.state c x.1).answer ≡ some h → ⊥) (sym q) (not-given B r g now y d x.1)) a.0 e
+              (λ d q. subst (λ (c : Call). handle_in (step r.state c x.1).answer ≡ some h → ⊥) (sym q) (not_given B r g now y d x.1)) a.0 e
 
 -- after any calls cs a timer is owed; calls ds leave it alone; then an accepted turn is made whose reading is at or past its deadline.
 -- One of the calls ds has reported it, or this turn does, once
@@ -88,7 +88,7 @@ unfolding from
 timeout_comes cs ds h N l c y a late ok =
     let r = run ours cs in
     let q = run ours (cs ++ ds) in
-    let z : q ≡ from ours r ds = from-append ours cs ds (run ours []) in
+    let z : q ≡ from ours r ds = from_append ours cs ds (run ours []) in
     ⊎_elim inl
     (λ k.
     let o : Owes (r.ledger.line h) (q.ledger.line h) = subst (λ (x : Run ours). Owes (r.ledger.line h) (x.ledger.line h)) (sym z) k in

@@ -14,7 +14,7 @@ use Rattle.theory.specs.Tests.{bit}
 use Rattle.theory.specs.First.{first_bad}
 use Rattle.theory.specs.Update.{upd}
 use Rattle.theory.specs.Occurs as Occurs
-use Rattle.theory.proofs.Update.{upd-all}
+use Rattle.theory.proofs.Update.{upd_all}
 use Rattle.refusals.specs.declared.fault.Fault.TheVariants.{Place}
 use Rattle.refusals.specs.Answer.{Answer, accepted, refused, unsound}
 use Rattle.heap.specs.Capacity.{cap}
@@ -158,7 +158,7 @@ hasty_fails m = differ (sym (((m ((C.Add 10, room) ∷ []) refl).turns 9 room re
 -- the premise: after an add there are no resets
 added_low : (h : Handle) → ((at (0 with_use 0) (begun 10) blank).line h).resets < 2 ^ 30
 added_low =
-    upd-all handle_discrete blank.line (0 with_use 0) (begun 10 (blank.line (0 with_use 0))) (λ h l. l.resets < 2 ^ 30)
+    upd_all handle_discrete blank.line (0 with_use 0) (begun 10 (blank.line (0 with_use 0))) (λ h l. l.resets < 2 ^ 30)
     (omega arith)
     (λ h n. omega arith)
 

@@ -30,13 +30,13 @@ module _ {out : List ℕ} {at : ℕ} where
   }
 
   -- the same text, and a bound on it
-  pub puts-as : {k k' r : ℕ} {t t' o : List ℕ} → t ≡ t' → length t' ≤ k' → Puts k out at t o r → Puts k' out at t' o r
-  puts-as {k} {k'} {r} {t} {t'} {o} e h p =
+  pub puts_as : {k k' r : ℕ} {t t' o : List ℕ} → t ≡ t' → length t' ≤ k' → Puts k out at t o r → Puts k' out at t' o r
+  puts_as {k} {k'} {r} {t} {t'} {o} e h p =
       subst (λ (x : List ℕ). length x ≤ k' → Puts k' out at x o r) e (λ g. record { written = p.written; next = p.next; short = g }) h
 
   -- the same text, and a bound that is no lower
-  pub puts-same : {k k' r : ℕ} {t t' o : List ℕ} → Puts k out at t o r → t ≡ t' → k ≤ k' → Puts k' out at t' o r
-  puts-same p e h = puts-as e (rw e at (le_trans p.short h)) p
+  pub puts_same : {k k' r : ℕ} {t t' o : List ℕ} → Puts k out at t o r → t ≡ t' → k ≤ k' → Puts k' out at t' o r
+  puts_same p e h = puts_as e (rw e at (le_trans p.short h)) p
 
 -- a text put at the start of bytes that are no fewer stands there, and behind it is what was there
 pub puts_whole : {k r : ℕ} {out t out' : List ℕ} → Puts k out 0 t out' r → k ≤ length out → record { count = r; bytes = out' } ≡ written_of t out

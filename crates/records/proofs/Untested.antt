@@ -57,11 +57,11 @@ module _ (s : Set) (f : Fit s) (l : List ℕ) where
   told_same (refused n) = refl
   told_same (unsound x) = refl
 
-  left-fit : (d : Answer Call) → Fit (answer_by s d l).state.set
+  left_fit : (d : Answer Call) → Fit (answer_by s d l).state.set
   unfolding answer_of
-  left-fit (accepted c) = step_fit s f c l
-  left-fit (refused n) = f
-  left-fit (unsound x) = f
+  left_fit (accepted c) = step_fit s f c l
+  left_fit (refused n) = f
+  left_fit (unsound x) = f
 
 -- SO the lines are the same
 pub lines_same : (bs : List (List ℕ)) (s : Lent) → Fit s.set → lines_unguarded bs s ≡ lines_of bs s
@@ -70,4 +70,4 @@ lines_same [] s f = refl
 lines_same (b ∷ bs) s f =
     let a = answer_by s.set (decode_of b) s.list in
     ap (λ (x : Answered). line_of x.told x.state.list ++ lines_unguarded bs x.state) (told_same s.set f s.list (decode_of b))
-    ∙ ap (λ (t : List ℕ). line_of a.told a.state.list ++ t) (lines_same bs a.state (left-fit s.set f s.list (decode_of b)))
+    ∙ ap (λ (t : List ℕ). line_of a.told a.state.list ++ t) (lines_same bs a.state (left_fit s.set f s.list (decode_of b)))

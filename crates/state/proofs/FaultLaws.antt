@@ -12,7 +12,7 @@ use Rattle.refusals.proofs.Faults.{stops}
 use Rattle.heap.specs.Capacity.{cap}
 use Rattle.heap.specs.Faults as Heaps
 use Rattle.heap.specs.Sound as HeapSound
-use Rattle.heap.proofs.Testing.Test.{consistent-sound}
+use Rattle.heap.proofs.Testing.Test.{consistent_sound}
 use Rattle.state.specs.declared.Set.{Set}
 use Rattle.state.specs.declared.fault.Walk.{Walk}
 use Rattle.state.specs.declared.fault.Walk.TheVariants as W
@@ -21,15 +21,15 @@ use Rattle.state.specs.Faults.{list_scan, lower, entry_scan, first_place, place_
 
 module _ (s : Set) {o : Option Fault} (e : o ≡ Heaps.fault_of s.heap) where
   -- a fault of the heap is the first
-  pub heap-first : {f : Fault} → o ≡ some f → o ≡ fault_of s
+  pub heap_first : {f : Fault} → o ≡ some f → o ≡ fault_of s
   unfolding fault_of
-  heap-first q = stops _ e q
+  heap_first q = stops _ e q
 
   module _ (z : o ≡ none) where
     -- where the heap has none it is sound; how long the arrays are the code's types say
     pub heap_sound : length s.heap.entries ≡ cap → length s.heap.slots ≡ cap → HeapSound.Sound s.heap
     unfolding Heaps.consistent_of
-    heap_sound n m = consistent-sound s.heap n m (ap clear (sym e ∙ z))
+    heap_sound n m = consistent_sound s.heap n m (ap clear (sym e ∙ z))
 
     -- then that of the list
     pub list_next : {r : Walk} {k : ℕ} → walked r ≡ list_scan s → r ≡ W.At k → some (List k) ≡ fault_of s

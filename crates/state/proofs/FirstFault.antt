@@ -12,7 +12,7 @@ use Rattle.theory.specs.Chain.{clear}
 use Rattle.theory.specs.First.{first_bad}
 use Rattle.theory.proofs.Tests.{none_some, true_false, by-ref, ref_eq, ref_le, ref_true, true_ref}
 use Rattle.theory.proofs.First.{none_all, some_first}
-use Rattle.theory.proofs.WrongStep.{wrong-none, wrong-at}
+use Rattle.theory.proofs.WrongStep.{wrong_none, wrong_at}
 use Rattle.refusals.specs.declared.fault.Fault.{Fault}
 use Rattle.refusals.specs.declared.fault.Fault.TheVariants.{Count, Position, Order, FreeChain, List, Place}
 use Rattle.refusals.specs.Faults.{or_else, fault_by}
@@ -21,24 +21,24 @@ use Rattle.heap.specs.Rules.{entry_at}
 use Rattle.heap.specs.Faults as Heaps
 use Rattle.heap.specs.Sound as Heap
 use Rattle.heap.specs.Named as HeapNamed
-use Rattle.heap.proofs.Testing.Test.{consistent-sound}
+use Rattle.heap.proofs.Testing.Test.{consistent_sound}
 use Rattle.heap.proofs.Testing.Named as HeapProof
 use Rattle.state.specs.declared.Set.{Set}
 use Rattle.state.specs.State.{head_of}
 use Rattle.state.specs.Faults.{waits_at, after_at, list_scan, place_ok, entry_ok, lower, entry_scan, first_place, place_scan, fault_of}
 use Rattle.state.specs.Named.{PlaceRight, EntryRight, WrongPlace, Listed, Named}
 use Rattle.state.proofs.ListLaws.{waits_below}
-use Rattle.state.proofs.PlaceTest.{ref-place, ref-entry}
+use Rattle.state.proofs.PlaceTest.{ref_place, ref_entry}
 
 module _ (s : Set) where
   -- a fault of the heap means for the set what it means for the heap
-  of-heap : (f : Fault) → HeapNamed.Named s.heap f → Named s f
-  of-heap Count n = n
-  of-heap (Position i) n = n
-  of-heap (Order i) n = n
-  of-heap (FreeChain k) n = n
-  of-heap (List k) n = absurd n
-  of-heap (Place p) n = absurd n
+  of_heap : (f : Fault) → HeapNamed.Named s.heap f → Named s f
+  of_heap Count n = n
+  of_heap (Position i) n = n
+  of_heap (Order i) n = n
+  of_heap (FreeChain k) n = n
+  of_heap (List k) n = absurd n
+  of_heap (Place p) n = absurd n
 
   -- the place number of an entry
   abbrev holder : ℕ → ℕ
@@ -49,10 +49,10 @@ module _ (s : Set) where
   Scanned n none = (i : ℕ) → i < n → entry_ok s i ≡ true
   Scanned n (some p) = ((i : ℕ) × (i < n) × (holder i ≡ p) × (entry_ok s i ≡ false)) × ((i : ℕ) → i < n → entry_ok s i ≡ false → p ≤ holder i)
 
-  scan-told : (n : ℕ) → Scanned n (entry_scan s n)
+  scan_told : (n : ℕ) → Scanned n (entry_scan s n)
   unfolding entry_scan
-  scan-told zero = λ i l. absurd (omega arith)
-  scan-told (suc n) = step (entry_scan s n) (scan-told n) (entry_ok s n) refl
+  scan_told zero = λ i l. absurd (omega arith)
+  scan_told (suc n) = step (entry_scan s n) (scan_told n) (entry_ok s n) refl
     where
       both : (P : ℕ → Type 0) → ((i : ℕ) → i < n → P i) → P n → (i : ℕ) → i < suc n → P i
       both P below last i l = by-ref (ref_eq i n) (λ e. subst P (sym e) last) (λ d. below i (omega arith))
@@ -83,30 +83,30 @@ module _ (s : Set) where
   Looked none = (q : ℕ) → q < cap → PlaceRight s q
   Looked (some p) = (p < cap) × ¬ PlaceRight s p × ((q : ℕ) → q < p → PlaceRight s q)
 
-  look-told : Looked (first_place s)
+  look_told : Looked (first_place s)
   unfolding first_place
-  look-told = go (first_bad (place_ok s) cap 0) refl
+  look_told = go (first_bad (place_ok s) cap 0) refl
     where
       go : (o : Option ℕ) → first_bad (place_ok s) cap 0 ≡ o → Looked o
-      go none e = λ q l. ref_true (ref-place s q) (none_all (place_ok s) cap 0 e q (omega arith) (omega arith))
+      go none e = λ q l. ref_true (ref_place s q) (none_all (place_ok s) cap 0 e q (omega arith) (omega arith))
       go (some p) e =
           let a = some_first (place_ok s) cap 0 p e in (
             omega (arith, a.1),
-            (λ r. true_false (true_ref (ref-place s p) r) a.2),
-            (λ q l. ref_true (ref-place s q) (a.3 q (omega arith) l)),
+            (λ r. true_false (true_ref (ref_place s p) r) a.2),
+            (λ q l. ref_true (ref_place s q) (a.3 q (omega arith) l)),
           )
 
   -- nothing is wrong at a place below what both scans found
-  under-looked : (o : Option ℕ) → Looked o → (r : ℕ) → ((p : ℕ) → o ≡ some p → r < p) → r < cap → PlaceRight s r
-  under-looked none k r b l = k r l
-  under-looked (some p) k r b l = k.2 r (b p refl)
+  under_looked : (o : Option ℕ) → Looked o → (r : ℕ) → ((p : ℕ) → o ≡ some p → r < p) → r < cap → PlaceRight s r
+  under_looked none k r b l = k r l
+  under_looked (some p) k r b l = k.2 r (b p refl)
 
-  under-scanned : (o : Option ℕ) → Scanned s.heap.len o → (r : ℕ) → ((q : ℕ) → o ≡ some q → r < q) → (i : ℕ) → i < s.heap.len → holder i ≡ r → EntryRight s i
-  under-scanned none k r b i l e = ref_true (ref-entry s i) (k i l)
-  under-scanned (some q) k r b i l e = go (entry_ok s i) refl
+  under_scanned : (o : Option ℕ) → Scanned s.heap.len o → (r : ℕ) → ((q : ℕ) → o ≡ some q → r < q) → (i : ℕ) → i < s.heap.len → holder i ≡ r → EntryRight s i
+  under_scanned none k r b i l e = ref_true (ref_entry s i) (k i l)
+  under_scanned (some q) k r b i l e = go (entry_ok s i) refl
     where
       go : (t : Bool) → entry_ok s i ≡ t → EntryRight s i
-      go true t = ref_true (ref-entry s i) t
+      go true t = ref_true (ref_entry s i) t
       go false t = let m = k.1 i l t in let c = b q refl in absurd (omega arith)
 
   -- the lowest place at fault
@@ -120,17 +120,17 @@ module _ (s : Set) where
       clean : (a b : Option ℕ) → Looked a → Scanned s.heap.len b → (p : ℕ) → ((q : ℕ) → a ≡ some q → p ≤ q) → ((q : ℕ) → b ≡ some q → p ≤ q)
           → (q : ℕ) → q < p → ¬ WrongPlace s q
       clean a b x y p u v q l =
-          ⊎_elim (λ w. w.1 (under-looked a x q (λ r e. let m = u r e in omega arith) w.0))
-          (λ w. w.3 (under-scanned b y q (λ r e. let m = v r e in omega arith) w.0 w.1 w.2))
+          ⊎_elim (λ w. w.1 (under_looked a x q (λ r e. let m = u r e in omega arith) w.0))
+          (λ w. w.3 (under_scanned b y q (λ r e. let m = v r e in omega arith) w.0 w.1 w.2))
 
-      wrong-entry : {q : ℕ} → Scanned s.heap.len (some q) → WrongPlace s q
-      wrong-entry y = inr (y.0.0, y.0.1, y.0.2, λ r. true_false (true_ref (ref-entry s y.0.0) r) y.0.3)
+      wrong_entry : {q : ℕ} → Scanned s.heap.len (some q) → WrongPlace s q
+      wrong_entry y = inr (y.0.0, y.0.1, y.0.2, λ r. true_false (true_ref (ref_entry s y.0.0) r) y.0.3)
 
       go : (a b : Option ℕ) → Looked a → Scanned s.heap.len b → fault_by Place (lower a b) ≡ some f → Named s f
       go none none x y e = absurd (none_some refl e)
       go none (some q) x y e =
           let z : Place q ≡ f = cc in
-          named q z (wrong-entry y) (clean none (some q) x y q (λ r c. absurd (none_some refl c)) (λ r c. let m : q ≡ r = cc in omega arith))
+          named q z (wrong_entry y) (clean none (some q) x y q (λ r c. absurd (none_some refl c)) (λ r c. let m : q ≡ r = cc in omega arith))
       go (some p) none x y e =
           let z : Place p ≡ f = cc in
           named p z (inl (x.0, x.1)) (clean (some p) none x y p (λ r c. let m : p ≡ r = cc in omega arith) (λ r c. absurd (none_some refl c)))
@@ -139,24 +139,24 @@ module _ (s : Set) where
           named (min p q) z
           (by-ref (ref_le p q)
           (λ m. let n : p ≡ min p q = omega arith in subst (WrongPlace s) n (inl (x.0, x.1)))
-          (λ m. let n : q ≡ min p q = omega arith in subst (WrongPlace s) n (wrong-entry y)))
+          (λ m. let n : q ≡ min p q = omega arith in subst (WrongPlace s) n (wrong_entry y)))
           (clean (some p) (some q) x y (min p q) (λ r c. let m : p ≡ r = cc in omega arith) (λ r c. let m : q ≡ r = cc in omega arith))
 
-  place-named : Heap.Sound s.heap → Listed s → (f : Fault) → fault_by Place (place_scan s) ≡ some f → Named s f
+  place_named : Heap.Sound s.heap → Listed s → (f : Fault) → fault_by Place (place_scan s) ≡ some f → Named s f
   unfolding place_scan
-  place-named h l f e = lowest (first_place s) (entry_scan s s.heap.len) look-told (scan-told s.heap.len) h l f e
+  place_named h l f e = lowest (first_place s) (entry_scan s s.heap.len) look_told (scan_told s.heap.len) h l f e
 
   -- THE FAULT THAT IS NAMED; how long the heap's arrays are the code's types say
-  pub fault-named : length s.heap.entries ≡ cap → length s.heap.slots ≡ cap → (f : Fault) → fault_of s ≡ some f → Named s f
+  pub fault_named : length s.heap.entries ≡ cap → length s.heap.slots ≡ cap → (f : Fault) → fault_of s ≡ some f → Named s f
   unfolding fault_of list_scan Heaps.consistent_of
-  fault-named m k f e = go (Heaps.fault_of s.heap) refl e
+  fault_named m k f e = go (Heaps.fault_of s.heap) refl e
     where
       listed : Heap.Sound s.heap → (x : Option ℕ) → list_scan s ≡ x → or_else (fault_by List x) (fault_by Place (place_scan s)) ≡ some f → Named s f
-      listed h none q e = place-named h (sym (wrong-none (waits_at s) (after_at s) (head_of s.first) cap (waits_below s)) ∙ ap clear q) f e
+      listed h none q e = place_named h (sym (wrong_none (waits_at s) (after_at s) (head_of s.first) cap (waits_below s)) ∙ ap clear q) f e
       listed h (some j) q e =
           let z : List j ≡ f = cc in
-          subst (Named s) z (h, wrong-at (waits_at s) (after_at s) (head_of s.first) cap (waits_below s) j q)
+          subst (Named s) z (h, wrong_at (waits_at s) (after_at s) (head_of s.first) cap (waits_below s) j q)
 
       go : (x : Option Fault) → Heaps.fault_of s.heap ≡ x → or_else x (or_else (fault_by List (list_scan s)) (fault_by Place (place_scan s))) ≡ some f → Named s f
-      go none q e = listed (consistent-sound s.heap m k (ap clear q)) (list_scan s) refl e
-      go (some y) q e = let z : y ≡ f = cc in of-heap f (HeapProof.fault-named s.heap f (q ∙ ap some z))
+      go none q e = listed (consistent_sound s.heap m k (ap clear q)) (list_scan s) refl e
+      go (some y) q e = let z : y ≡ f = cc in of_heap f (HeapProof.fault_named s.heap f (q ∙ ap some z))

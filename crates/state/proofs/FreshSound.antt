@@ -7,7 +7,7 @@ use native.Mathlib.Omega.{arith}
 use lib.ListN.{length-replicate, get_or-replicate}
 use borrow.Author.Tests.{lt-ltb}
 use Rattle.theory.proofs.Counting.{count_none}
-use Rattle.theory.proofs.ChainTest.{none-ok}
+use Rattle.theory.proofs.ChainTest.{none_ok}
 use Rattle.heap.specs.Capacity.{cap}
 use Rattle.heap.proofs.Soundness.FreshSound as Heap
 use Rattle.state.specs.declared.Life.TheVariants.{Free, Live, Cancelled}
@@ -48,7 +48,7 @@ pub fresh_sound : Sound fresh_of
 fresh_sound = record {
   timers_long = simp length-replicate;
   heap_sound = Heap.fresh_sound;
-  listed = (none-ok (waits_at fresh_of) (after_at fresh_of) cap (count_none (waits_at fresh_of) cap fresh_still)).0;
+  listed = (none_ok (waits_at fresh_of) (after_at fresh_of) cap (count_none (waits_at fresh_of) cap fresh_still)).0;
   slot_own = λ p q l e. absurd (held_some e (fresh_unused p l).bare);
   entry_place = λ i l. absurd (omega arith);
   entry_own = λ i l. absurd (omega arith);

@@ -25,7 +25,7 @@ use Rattle.heap.specs.Sound.{Sound}
 use Rattle.heap.specs.InUse as Heap
 use Rattle.heap.proofs.AsList.Items.{and_same}
 use Rattle.heap.proofs.Soundness.SoundFacts.{full_back}
-use Rattle.heap.proofs.Testing.Test.{consistent-sound}
+use Rattle.heap.proofs.Testing.Test.{consistent_sound}
 use Rattle.heap.proofs.UnusedRoom.InUseTest as HeapTest
 use Rattle.state.specs.declared.Held.{Held}
 use Rattle.state.specs.declared.Set.{Set}
@@ -86,12 +86,12 @@ module _ (s : Set) (g : Heap) (r : Heap.Twins g s.heap) where
 
   no_fault : Heaps.fault_of s.heap ≡ none → Sound s.heap
   unfolding Heaps.consistent_of
-  no_fault e = consistent-sound s.heap r.right.entries_long r.right.slots_long (ap clear e)
+  no_fault e = consistent_sound s.heap r.right.entries_long r.right.slots_long (ap clear e)
 
   -- the places are asked only where the heap has no fault
-  fault-over : fault_of (over s g) ≡ fault_of s
+  fault_over : fault_of (over s g) ≡ fault_of s
   unfolding fault_of list_scan waits_at after_at
-  fault-over =
+  fault_over =
       ap (λ (f : Option Fault). or_else f (or_else (fault_by List (list_scan s)) (fault_by Place (place_scan (over s g)))))
       (HeapTest.fault_in_use g s.heap r.same)
       ∙ go (Heaps.fault_of s.heap) refl
@@ -104,7 +104,7 @@ module _ (s : Set) (g : Heap) (r : Heap.Twins g s.heap) where
 
 -- the scans find the same fault
 pub fault_in_use : {a b : Set} → Twins a b → fault_of a ≡ fault_of b
-fault_in_use r = by_heap (λ (a b : Set). fault_of a ≡ fault_of b) fault-over r
+fault_in_use r = by_heap (λ (a b : Set). fault_of a ≡ fault_of b) fault_over r
 
 -- the test says the same
 pub sound_in_use : {a b : Set} → Twins a b → sound_of a ≡ sound_of b

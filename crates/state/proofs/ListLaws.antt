@@ -12,7 +12,7 @@ use lib.Seq.{get_or-set_same, get_or-set_other}
 use borrow.Author.Tests.{ltb-true, lt-ltb, le-ltb}
 use Rattle.theory.specs.Counting.{count}
 use Rattle.theory.proofs.Tests.{and_left}
-use Rattle.theory.proofs.WrongTurns.{Walking, walk-starts, walk_short, walk-stranger, walk-again, walk-goes, walk_ends, walk-long}
+use Rattle.theory.proofs.WrongTurns.{Walking, walk_starts, walk_short, walk_stranger, walk_again, walk_goes, walk_ends, walk_long}
 use Rattle.heap.specs.Capacity.{cap}
 use Rattle.heap.specs.declared.Place.{Place}
 use Rattle.state.specs.declared.Waiting.{Waiting}
@@ -46,11 +46,11 @@ module _ (s : Set) where
   waits_below p e = ltb-true p cap (and_left _ _ e)
 
   -- the walk begins at the head of the list, with none marked
-  pub list-starts : {n : ℕ} → n ≡ count (waits_at s) cap → OnList s n 0 s.first (replicate cap false)
-  list-starts e = record {
+  pub list_starts : {n : ℕ} → n ≡ count (waits_at s) cap → OnList s n 0 s.first (replicate cap false)
+  list_starts e = record {
     many = e;
     room = length-replicate cap false;
-    walk = walk-starts (waits_at s) (after_at s) cap (head_of s.first) (λ x b. get_or-replicate cap x false false b);
+    walk = walk_starts (waits_at s) (after_at s) cap (head_of s.first) (λ x b. get_or-replicate cap x false false b);
   }
 
   module _ {n k : ℕ} {at : First} {met : List Bool} (w : OnList s n k at met) where
@@ -69,17 +69,17 @@ module _ (s : Set) where
     -- a place out of range is the fault
     pub list_past : {p : Place} → at ≡ First.At p → cap ≤ p.0 → some k ≡ list_scan s
     unfolding list_scan waits_at
-    list_past {p} e g = sym (walk-stranger (waits_at s) (after_at s) cap _ (stands e) (rw (le-ltb p.0 cap g)))
+    list_past {p} e g = sym (walk_stranger (waits_at s) (after_at s) cap _ (stands e) (rw (le-ltb p.0 cap g)))
 
     -- a timer that was met before is the fault
     pub list_again : {p : Place} → at ≡ First.At p → p.0 < cap → get_or met p.0 false ≡ true → some k ≡ list_scan s
     unfolding list_scan
-    list_again e g m = sym (walk-again (waits_at s) (after_at s) cap _ (stands e) g m)
+    list_again e g m = sym (walk_again (waits_at s) (after_at s) cap _ (stands e) g m)
 
     -- a timer that does not wait is the fault
     pub list_still : {p : Place} → at ≡ First.At p → p.0 < cap → is_waiting (timer_at s p.0).waiting ≡ false → some k ≡ list_scan s
     unfolding list_scan
-    list_still e g z = sym (walk-stranger (waits_at s) (after_at s) cap _ (stands e) (waits_in g z))
+    list_still e g z = sym (walk_stranger (waits_at s) (after_at s) cap _ (stands e) (waits_in g z))
 
     -- after a timer that waits and was not met the walk goes on
     pub list_goes : {p : Place} {to : First} → k < n → at ≡ First.At p → p.0 < cap → get_or met p.0 false ≡ false
@@ -90,7 +90,7 @@ module _ (s : Set) where
       room = length-set met p.0 true ∙ w.room;
       walk = subst (λ (o : Option ℕ). Walking (waits_at s) (after_at s) cap (head_of s.first) (k + 1) o (λ x. get_or (set met p.0 true) x false))
           (sym (ap head_of t ∙ head_next (timer_at s p.0).waiting))
-          (walk-goes (waits_at s) (after_at s) cap _ (stands e) (omega (arith, w.many)) g (waits_in g z) m
+          (walk_goes (waits_at s) (after_at s) cap _ (stands e) (omega (arith, w.many)) g (waits_in g z) m
           (get_or-set_same met p.0 true false (omega (arith, w.room))) (λ y d. get_or-set_other met p.0 y true false d));
     }
 
@@ -102,4 +102,4 @@ module _ (s : Set) where
     -- and one where it goes on
     pub list_long : {p : Place} → n ≤ k → at ≡ First.At p → some k ≡ list_scan s
     unfolding list_scan
-    list_long l e = sym (walk-long (waits_at s) (after_at s) cap _ (omega (arith, w.many, w.walk.within)) waits_below (stands e))
+    list_long l e = sym (walk_long (waits_at s) (after_at s) cap _ (omega (arith, w.many, w.walk.within)) waits_below (stands e))

@@ -71,15 +71,15 @@ ref_has h (Empty n) p = fails (λ r. let e = r.1 in let z : ◌≡◌ {A = ℕ} 
 
 module _ (s : Set) (p : ℕ) where
   -- the slot's entry is the timer's own
-  ref-own : (q : Slot) → Ref (Owns s p q) (held_ok s.heap p (Held.At q))
-  ref-own q =
+  ref_own : (q : Slot) → Ref (Owns s p q) (held_ok s.heap p (Held.At q))
+  ref_own q =
       ref_map (ref_and (ref_lt q.0 s.heap.made) (ref_has s.heap (state_at s.heap q.0) p))
       (λ r. record { made = r.0; where_it_stands = r.1.0; full = r.1.1; own = r.1.2 })
       (λ o. (o.made, (o.where_it_stands, o.full, o.own)))
 
-  ref-held : (d : Held) → Ref ((q : Slot) → d ≡ Held.At q → Owns s p q) (held_ok s.heap p d)
-  ref-held Held.Nothing = holds (λ q e. absurd (held_some e refl))
-  ref-held (Held.At r) = ref_map (ref-own r) (λ o q e. let z : r ≡ q = cc in subst (Owns s p) z o) (λ f. f r refl)
+  ref_held : (d : Held) → Ref ((q : Slot) → d ≡ Held.At q → Owns s p q) (held_ok s.heap p d)
+  ref_held Held.Nothing = holds (λ q e. absurd (held_some e refl))
+  ref_held (Held.At r) = ref_map (ref_own r) (λ o q e. let z : r ≡ q = cc in subst (Owns s p) z o) (λ f. f r refl)
 
 ref_life : (closed : Bool) (t : Timer) (l : Life) → Ref (Goes closed t l) (life_ok closed t l)
 ref_life c t Free = ref_idle t
@@ -96,30 +96,30 @@ ref_closed false t = holds (λ e. absurd (false≢true e))
 
 module _ (s : Set) where
   -- the test of a place
-  pub ref-place : (p : ℕ) → Ref (PlaceRight s p) (place_ok s p)
+  pub ref_place : (p : ℕ) → Ref (PlaceRight s p) (place_ok s p)
   unfolding place_ok
-  ref-place p =
+  ref_place p =
       let t = timer_at s p in
-      ref_map (ref_and (ref_life s.closed t t.life) (ref_and (ref_closed s.closed t) (ref-held s p t.held)))
+      ref_map (ref_and (ref_life s.closed t t.life) (ref_and (ref_closed s.closed t) (ref_held s p t.held)))
       (λ r. record { goes = r.0; idle = r.1.0; owns = r.1.1 })
       (λ f. (f.goes, (f.idle, f.owns)))
 
   -- the test of an entry
-  pub ref-entry : (i : ℕ) → Ref (EntryRight s i) (entry_ok s i)
+  pub ref_entry : (i : ℕ) → Ref (EntryRight s i) (entry_ok s i)
   unfolding entry_ok
-  ref-entry i =
+  ref_entry i =
       let e = entry_at s.heap i in
       ref_map (ref_and (ref_lt e.place.0 cap) (ref_and (ref_lt e.generation (2 ^ 30)) (ref_slot (timer_at s e.place.0).held e.slot)))
       (λ r. record { place = r.0; generation = r.1.0; own = r.1.1 })
       (λ f. (f.place, (f.generation, f.own)))
 
   -- the scan over the entries finds none exactly where all pass
-  pub ref-entries : (n : ℕ) → Ref ((i : ℕ) → i < n → EntryRight s i) (clear (entry_scan s n))
+  pub ref_entries : (n : ℕ) → Ref ((i : ℕ) → i < n → EntryRight s i) (clear (entry_scan s n))
   unfolding entry_scan
-  ref-entries zero = holds (λ i l. absurd (omega arith))
-  ref-entries (suc n) =
+  ref_entries zero = holds (λ i l. absurd (omega arith))
+  ref_entries (suc n) =
       subst (Ref ((i : ℕ) → i < suc n → EntryRight s i)) (go (entry_scan s n) (entry_ok s n))
-      (ref_map (ref_and (ref-entries n) (ref-entry n))
+      (ref_map (ref_and (ref_entries n) (ref_entry n))
       (λ r i l. split i n (λ e. subst (EntryRight s) (sym e) r.1) (λ d. r.0 i (omega arith)))
       (λ f. ((λ i l. f i (omega arith)), f n (omega arith))))
     where

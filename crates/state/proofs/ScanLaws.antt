@@ -9,7 +9,7 @@ use native.Mathlib.Numerals.{add-one}
 use native.Mathlib.Omega.{arith}
 use borrow.Author.Tests.{lt-ltb, le-ltb, eq-eqb, ne_eqb}
 use Rattle.theory.specs.First.{first_bad}
-use Rattle.theory.proofs.First.{first_goes, first-here, first_done}
+use Rattle.theory.proofs.First.{first_goes, first_here, first_done}
 use Rattle.heap.specs.Capacity.{cap}
 use Rattle.heap.specs.declared.Heap.{Heap}
 use Rattle.heap.specs.declared.Slot.{Slot}
@@ -27,26 +27,26 @@ module _ (h : Heap) (p : ℕ) where
   held_none e = ap (held_ok h p) e
 
   -- one fails that names a slot that was not made
-  pub held-past : {d : Held} {q : Slot} → d ≡ Held.At q → h.made ≤ q.0 → held_ok h p d ≡ false
-  held-past {q = q} e l = rw (e, le-ltb q.0 h.made l)
+  pub held_past : {d : Held} {q : Slot} → d ≡ Held.At q → h.made ≤ q.0 → held_ok h p d ≡ false
+  held_past {q = q} e l = rw (e, le-ltb q.0 h.made l)
 
   -- of a slot that was made the state decides
-  held-made : {d : Held} {q : Slot} → d ≡ Held.At q → q.0 < h.made → held_ok h p d ≡ entry_has h (state_at h q.0) p
-  held-made {q = q} e l = rw (e, lt-ltb q.0 h.made l)
+  held_made : {d : Held} {q : Slot} → d ≡ Held.At q → q.0 < h.made → held_ok h p d ≡ entry_has h (state_at h q.0) p
+  held_made {q = q} e l = rw (e, lt-ltb q.0 h.made l)
 
   -- one fails that names an empty slot
-  pub held-empty : {d : Held} {q n : Slot} → d ≡ Held.At q → q.0 < h.made → state_at h q.0 ≡ Empty n → held_ok h p d ≡ false
-  held-empty e l f = held-made e l ∙ ap (λ x. entry_has h x p) f
+  pub held_empty : {d : Held} {q n : Slot} → d ≡ Held.At q → q.0 < h.made → state_at h q.0 ≡ Empty n → held_ok h p d ≡ false
+  held_empty e l f = held_made e l ∙ ap (λ x. entry_has h x p) f
 
   -- one fails that names a slot whose entry holds another place
-  pub held-other : {d : Held} {q : Slot} {i : Pos} → d ≡ Held.At q → q.0 < h.made → state_at h q.0 ≡ Full i
+  pub held_other : {d : Held} {q : Slot} {i : Pos} → d ≡ Held.At q → q.0 < h.made → state_at h q.0 ≡ Full i
       → (entry_at h i.0).place.0 ≢ p → held_ok h p d ≡ false
-  held-other {i = i} e l f n = held-made e l ∙ ap (λ x. entry_has h x p) f ∙ ne_eqb (entry_at h i.0).place.0 p n
+  held_other {i = i} e l f n = held_made e l ∙ ap (λ x. entry_has h x p) f ∙ ne_eqb (entry_at h i.0).place.0 p n
 
   -- one passes that names a slot whose entry holds its own place
-  pub held-own : {d : Held} {q : Slot} {i : Pos} → d ≡ Held.At q → q.0 < h.made → state_at h q.0 ≡ Full i
+  pub held_own : {d : Held} {q : Slot} {i : Pos} → d ≡ Held.At q → q.0 < h.made → state_at h q.0 ≡ Full i
       → (entry_at h i.0).place.0 ≡ p → held_ok h p d ≡ true
-  held-own {i = i} e l f n = held-made e l ∙ ap (λ x. entry_has h x p) f ∙ eq-eqb (entry_at h i.0).place.0 p n
+  held_own {i = i} e l f n = held_made e l ∙ ap (λ x. entry_has h x p) f ∙ eq-eqb (entry_at h i.0).place.0 p n
 
 -- the first place at fault by itself, where the scan has come to p
 unfoldable pub places_from : Set → ℕ → Option ℕ
@@ -54,9 +54,9 @@ places_from s p = first_bad (place_ok s) (cap - p) p
 
 module _ (s : Set) (p : ℕ) where
   -- a place fails whose timer's parts do not go together
-  pub place-parts : life_ok s.closed (timer_at s p) (timer_at s p).life && closed_ok s.closed (timer_at s p) ≡ false → place_ok s p ≡ false
+  pub place_parts : life_ok s.closed (timer_at s p) (timer_at s p).life && closed_ok s.closed (timer_at s p) ≡ false → place_ok s p ≡ false
   unfolding place_ok
-  place-parts e =
+  place_parts e =
       go (life_ok s.closed (timer_at s p) (timer_at s p).life) (closed_ok s.closed (timer_at s p)) (held_ok s.heap p (timer_at s p).held) e
     where
       go : (a b c : Bool) → (a && b) ≡ false → (a && (b && c)) ≡ false
@@ -64,10 +64,10 @@ module _ (s : Set) (p : ℕ) where
       go false b c e = refl
 
   -- where they do, the place passes if what its timer names is its own
-  pub place-held : {b : Bool} → life_ok s.closed (timer_at s p) (timer_at s p).life && closed_ok s.closed (timer_at s p) ≡ true
+  pub place_held : {b : Bool} → life_ok s.closed (timer_at s p) (timer_at s p).life && closed_ok s.closed (timer_at s p) ≡ true
       → held_ok s.heap p (timer_at s p).held ≡ b → place_ok s p ≡ b
   unfolding place_ok
-  place-held {b} e f =
+  place_held {b} e f =
       go (life_ok s.closed (timer_at s p) (timer_at s p).life) (closed_ok s.closed (timer_at s p)) (held_ok s.heap p (timer_at s p).held) e ∙ f
     where
       go : (a b c : Bool) → (a && b) ≡ true → (a && (b && c)) ≡ c
@@ -75,21 +75,21 @@ module _ (s : Set) (p : ℕ) where
       go false b c e = absurd (let z : ◌≡◌ {A = ℕ} 0 1 = cc in omega arith)
 
   -- after a place that passes the scan goes on
-  pub places-go : p < cap → place_ok s p ≡ true → places_from s (p + 1) ≡ places_from s p
+  pub places_go : p < cap → place_ok s p ≡ true → places_from s (p + 1) ≡ places_from s p
   unfolding places_from
-  places-go l e =
+  places_go l e =
       let m : cap - p - 1 ≡ cap - (p + 1) = omega arith in
       sym (first_goes (place_ok s) (cap - p) p (omega arith) e ∙ ap (λ (n : ℕ). first_bad (place_ok s) n (p + 1)) m)
 
   -- at a place that fails it stops
-  pub places-here : p < cap → place_ok s p ≡ false → places_from s p ≡ some p
+  pub places_here : p < cap → place_ok s p ≡ false → places_from s p ≡ some p
   unfolding places_from
-  places-here l e = first-here (place_ok s) (cap - p) p (omega arith) e
+  places_here l e = first_here (place_ok s) (cap - p) p (omega arith) e
 
   -- with no place left there is no fault
-  pub places-done : cap ≤ p → places_from s p ≡ none
+  pub places_done : cap ≤ p → places_from s p ≡ none
   unfolding places_from
-  places-done l = first_done (place_ok s) (cap - p) p (omega arith)
+  places_done l = first_done (place_ok s) (cap - p) p (omega arith)
 
 module _ (s : Set) (i : ℕ) where
   -- an entry fails whose place is out of range
@@ -104,15 +104,15 @@ module _ (s : Set) (i : ℕ) where
   entry_in l e = rw (lt-ltb (entry_at s.heap i).place.0 cap l) e
 
   -- an entry that passes changes nothing
-  pub entry-passes : entry_ok s i ≡ true → entry_scan s (i + 1) ≡ entry_scan s i
+  pub entry_passes : entry_ok s i ≡ true → entry_scan s (i + 1) ≡ entry_scan s i
   unfolding entry_scan
-  entry-passes e = rw (add-one i, e) (go (entry_scan s i))
+  entry_passes e = rw (add-one i, e) (go (entry_scan s i))
     where
       go : (a : Option ℕ) → lower a none ≡ a
       go none = refl
       go (some p) = refl
 
   -- one that fails brings in its place
-  pub entry-fails : entry_ok s i ≡ false → entry_scan s (i + 1) ≡ lower (entry_scan s i) (some (entry_at s.heap i).place.0)
+  pub entry_fails : entry_ok s i ≡ false → entry_scan s (i + 1) ≡ lower (entry_scan s i) (some (entry_at s.heap i).place.0)
   unfolding entry_scan
-  entry-fails e = rw (add-one i, e)
+  entry_fails e = rw (add-one i, e)

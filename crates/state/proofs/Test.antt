@@ -12,7 +12,7 @@ use Rattle.theory.specs.Tests.{Ref}
 use Rattle.theory.specs.Chain.{chain_okb}
 use Rattle.theory.proofs.Tests.{ref_map, ref_true, true_ref, true_false, is_false, and_left, and_right}
 use Rattle.theory.proofs.Counting.{count_zero}
-use Rattle.theory.proofs.ChainTest.{ok-head, ok-none}
+use Rattle.theory.proofs.ChainTest.{ok_head, ok_none}
 use Rattle.heap.specs.Capacity.{cap}
 use Rattle.heap.proofs.Soundness.SoundFacts.{full_back}
 use Rattle.state.specs.declared.Life.{Life}
@@ -26,7 +26,7 @@ use Rattle.state.specs.Faults.{waits_at, after_at, sound_of}
 use Rattle.state.specs.Sound.{Sound}
 use Rattle.state.specs.Named.{Goes}
 use Rattle.state.proofs.PlaceTest.{ref_still, held_some}
-use Rattle.state.proofs.Parts.{listTest, Passed, ref-passed}
+use Rattle.state.proofs.Parts.{list_test, Passed, ref_passed}
 
 -- a place that waits is a place of the set, and is marked so
 waits_in : (s : Set) (p : ℕ) → waits_at s p ≡ true → (p < cap) × (is_waiting (timer_at s p).waiting ≡ true)
@@ -40,30 +40,30 @@ in_waits s p l e = rw (lt-ltb p cap l) e
 
 module _ (s : Set) where
   -- a list that begins has a timer that waits
-  no-list : listTest s ≡ true → ((p : ℕ) → waits_at s p ≡ true → ⊥) → s.first ≡ First.Nothing
-  no-list w n = go s.first w
+  no_list : list_test s ≡ true → ((p : ℕ) → waits_at s p ≡ true → ⊥) → s.first ≡ First.Nothing
+  no_list w n = go s.first w
     where
       go : (f : First) → chain_okb (waits_at s) (after_at s) cap (head_of f) ≡ true → f ≡ First.Nothing
       go First.Nothing w = refl
-      go (First.At p) w = absurd (n p.0 (ok-head (waits_at s) (after_at s) cap p.0 w))
+      go (First.At p) w = absurd (n p.0 (ok_head (waits_at s) (after_at s) cap p.0 w))
 
   -- the list of a set that passes and is closed is empty: none of its timers waits
-  closed-list : Passed s → s.closed ≡ true → s.first ≡ First.Nothing
-  closed-list t e =
-      no-list t.list
+  closed_list_lem : Passed s → s.closed ≡ true → s.first ≡ First.Nothing
+  closed_list_lem t e =
+      no_list t.list
       (λ p w. let q = waits_in s p w in true_false q.1 (ap is_waiting ((t.places p q.0).idle e).still))
 
   -- and so is its heap: an entry's place would name its slot
-  closed-heap : Passed s → s.closed ≡ true → s.heap.len ≡ 0
-  closed-heap t e = go s.heap.len (λ l. let f = t.entries 0 l in held_some f.own ((t.places _ f.place).idle e).bare)
+  closed_heap_lem : Passed s → s.closed ≡ true → s.heap.len ≡ 0
+  closed_heap_lem t e = go s.heap.len (λ l. let f = t.entries 0 l in held_some f.own ((t.places _ f.place).idle e).bare)
     where
       go : (n : ℕ) → (0 < n → ⊥) → n ≡ 0
       go zero h = refl
       go (suc n) h = absurd (h (omega arith))
 
   -- a set that passes is sound
-  passed-sound : length s.timers ≡ cap → Passed s → Sound s
-  passed-sound n t = record {
+  passed_sound : length s.timers ≡ cap → Passed s → Sound s
+  passed_sound n t = record {
     timers_long = n;
     heap_sound = t.heap;
     listed = t.list;
@@ -75,8 +75,8 @@ module _ (s : Set) where
     retired_unused = λ p l e. subst (Goes s.closed (timer_at s p)) e (t.places p l).goes;
     live_unmarked = λ p w d l o e. subst (Goes s.closed (timer_at s p)) e (t.places p l).goes o;
     cancelled_unmarked = λ p w l o e. (subst (Goes s.closed (timer_at s p)) e (t.places p l).goes o).0;
-    list_empty = closed-list t;
-    heap_empty = closed-heap t;
+    list_empty = closed_list_lem t;
+    heap_empty = closed_heap_lem t;
     cancelled_waits = λ p w l o e. (subst (Goes s.closed (timer_at s p)) e (t.places p l).goes o).1;
   }
 
@@ -85,7 +85,7 @@ module _ (s : Set) where
     closed_still : (p : ℕ) → p < cap → s.closed ≡ true → (timer_at s p).waiting ≡ Waiting.No
     closed_still p l e =
         let w = subst (λ (f : First). chain_okb (waits_at s) (after_at s) cap (head_of f) ≡ true) (g.list_empty e) g.listed in
-        let n = count_zero (waits_at s) cap (ok-none (waits_at s) (after_at s) cap w) p l in
+        let n = count_zero (waits_at s) cap (ok_none (waits_at s) (after_at s) cap w) p l in
         ref_true (ref_still (timer_at s p).waiting) (ap not (is_false (is_waiting (timer_at s p).waiting) (λ t. n (in_waits s p l t))))
 
     -- nor does it name a slot: that would have an entry
@@ -121,14 +121,14 @@ module _ (s : Set) where
     }
 
   -- the test says yes exactly where the set is sound; how long the arrays are the code's types say
-  pub sound-test : length s.timers ≡ cap → length s.heap.entries ≡ cap → length s.heap.slots ≡ cap → Ref (Sound s) (sound_of s)
-  sound-test n m k = ref_map (ref-passed s m k) (passed-sound n) sound_passed
+  pub sound_test : length s.timers ≡ cap → length s.heap.entries ≡ cap → length s.heap.slots ≡ cap → Ref (Sound s) (sound_of s)
+  sound_test n m k = ref_map (ref_passed s m k) (passed_sound n) sound_passed
 
   -- a set of which the test says yes is sound
-  pub sound-told : length s.timers ≡ cap → length s.heap.entries ≡ cap → length s.heap.slots ≡ cap
+  pub sound_told : length s.timers ≡ cap → length s.heap.entries ≡ cap → length s.heap.slots ≡ cap
       → sound_of s ≡ true → Sound s
-  sound-told n m k e = ref_true (sound-test n m k) e
+  sound_told n m k e = ref_true (sound_test n m k) e
 
   -- of a sound set the test says yes
-  pub sound-tells : Sound s → sound_of s ≡ true
-  sound-tells g = true_ref (sound-test g.timers_long g.heap_sound.entries_long g.heap_sound.slots_long) g
+  pub sound_tells : Sound s → sound_of s ≡ true
+  sound_tells g = true_ref (sound_test g.timers_long g.heap_sound.entries_long g.heap_sound.slots_long) g

@@ -12,8 +12,8 @@ use Rattle.theory.specs.Counting.{count, Mem}
 use Rattle.theory.specs.Chain.{walkb, Chain, chain_okb, chain_of}
 use Rattle.theory.proofs.Tests.{true_false}
 use Rattle.theory.proofs.Counting.{count_same, count_off}
-use Rattle.theory.proofs.Chain.{chain-ok, chain-distinct, chain_head}
-use Rattle.theory.proofs.ChainTest.{ok-chain, chain-whole}
+use Rattle.theory.proofs.Chain.{chain_ok, chain_distinct, chain_head}
+use Rattle.theory.proofs.ChainTest.{ok_chain, chain_whole}
 
 -- the same numbers pass and those have the same links: what a number that does not pass names is never read
 module _ (ok ok' : ℕ → Bool) (next next' : ℕ → Option ℕ) (a : (y : ℕ) → ok y ≡ ok' y) (b : (y : ℕ) → ok y ≡ true → next y ≡ next' y) where
@@ -56,12 +56,12 @@ module _ (ok ok' : ℕ → Bool) (next next' : ℕ → Option ℕ) (x : ℕ)
       refl,
       on,
       subst (λ (k : Option ℕ). Chain ok' next' k l) (sym e)
-          (chain_off l h (λ m. true_false (chain-ok ok next l h c x m) off) c),
+          (chain_off l h (λ m. true_false (chain_ok ok next l h c x m) off) c),
     )
 
     -- x stood in front: what it named is the head of the rest
     pop_chain : (l : List ℕ) → Chain ok next (some x) (x ∷ l) → Chain ok' next' (next x) l
-    pop_chain l c = chain_off l (next x) (chain-distinct ok next (x ∷ l) (some x) c).0 c.2
+    pop_chain l c = chain_off l (next x) (chain_distinct ok next (x ∷ l) (some x) c).0 c.2
 
 -- the same of all numbers below cap that pass
 module _ (ok ok' : ℕ → Bool) (next next' : ℕ → Option ℕ) (cap x : ℕ)
@@ -71,18 +71,18 @@ module _ (ok ok' : ℕ → Bool) (next next' : ℕ → Option ℕ) (cap x : ℕ)
     pub push_ok : (h : Option ℕ) → x < cap → ok x ≡ false → ok' x ≡ true → next' x ≡ h → chain_okb ok next cap h ≡ true
         → (chain_okb ok' next' cap (some x) ≡ true) × (chain_of ok' next' cap (some x) ≡ x ∷ chain_of ok next cap h)
     push_ok h b off on e w =
-        let r = ok-chain ok next cap h w in
-        chain-whole ok' next' cap (x ∷ chain_of ok next cap h) (some x)
+        let r = ok_chain ok next cap h w in
+        chain_whole ok' next' cap (x ∷ chain_of ok next cap h) (some x)
         (ap suc r.0 ∙ sym (count_off ok ok' cap x same_ok off on b)) (push_chain ok ok' next next' x same_ok same_next h (chain_of ok next cap h) off on e r.1)
 
     -- x is taken off the front of such a chain and passes no more: the test still says yes, and the other nodes are left
     pub pop_ok : x < cap → ok' x ≡ false → chain_okb ok next cap (some x) ≡ true
         → (chain_okb ok' next' cap (next x) ≡ true) × (chain_of ok next cap (some x) ≡ x ∷ chain_of ok' next' cap (next x))
     pop_ok b off w =
-        let r = ok-chain ok next cap (some x) w in
+        let r = ok_chain ok next cap (some x) w in
         let q = chain_head ok next x (chain_of ok next cap (some x)) r.1 in
         let c = subst (Chain ok next (some x)) q.1 r.1 in
-        let p = chain-whole ok' next' cap q.0 (next x)
+        let p = chain_whole ok' next' cap q.0 (next x)
         (omega (arith, ap length q.1, r.0, count_off ok' ok cap x (λ y n. sym (same_ok y n)) off c.1 b))
         (pop_chain ok ok' next next' x same_ok same_next q.0 c) in
         (p.0, q.1 ∙ ap (◌∷◌ x) (sym p.1))

@@ -11,29 +11,29 @@ use Rattle.theory.specs.Walks.{Up, Down}
 use Rattle.theory.specs.Weights.{total}
 use Rattle.theory.proofs.Tests.{ref_lt, ref_eq, cond-ref}
 use Rattle.theory.proofs.Weights.{total_append}
-use Rattle.theory.proofs.Exchange.{length-swap, total_swap, fill_length, last_total, fill_total}
+use Rattle.theory.proofs.Exchange.{length_swap, total_swap, fill_length, last_total, fill_total}
 use Rattle.theory.proofs.Walks.{up_run, down_run}
 
 module _ {A : Type 0} (key : A → ℕ) (d : A) (w : A → ℕ) where
   -- a walk up keeps the weight
-  up-total : {xs ys : List A} {i j s : ℕ} → Up key d xs i ys j s → i < length xs → total w ys ≡ total w xs
-  up-total (Up.stop t) h = refl
-  up-total (Up.move {xs = xs} {i = i} p l r) h =
-      up-total r (omega (arith, length-swap d xs i (parent i))) ∙ total_swap d xs i (parent i) h (omega arith) (omega arith) w
+  up_total : {xs ys : List A} {i j s : ℕ} → Up key d xs i ys j s → i < length xs → total w ys ≡ total w xs
+  up_total (Up.stop t) h = refl
+  up_total (Up.move {xs = xs} {i = i} p l r) h =
+      up_total r (omega (arith, length_swap d xs i (parent i))) ∙ total_swap d xs i (parent i) h (omega arith) (omega arith) w
 
   -- a walk down keeps the weight
-  down-total : {n : ℕ} {xs ys : List A} {i j s : ℕ} → Down key d n xs i ys j s → n ≤ length xs → i < n → total w ys ≡ total w xs
-  down-total (Down.stop t) e h = refl
-  down-total (Down.move {xs = xs} {i = i} c z p b q l m r) e h =
-      down-total r (omega (arith, length-swap d xs i c)) b ∙ total_swap d xs i c (omega arith) (omega arith) (omega arith) w
+  down_total : {n : ℕ} {xs ys : List A} {i j s : ℕ} → Down key d n xs i ys j s → n ≤ length xs → i < n → total w ys ≡ total w xs
+  down_total (Down.stop t) e h = refl
+  down_total (Down.move {xs = xs} {i = i} c z p b q l m r) e h =
+      down_total r (omega (arith, length_swap d xs i c)) b ∙ total_swap d xs i c (omega arith) (omega arith) (omega arith) w
 
   -- a push adds the weight of its entry
-  pub push-total : (xs : List A) (x : A) → total w (push key d xs x).list ≡ total w xs + w x
+  pub push_total : (xs : List A) (x : A) → total w (push key d xs x).list ≡ total w xs + w x
   unfolding push
-  push-total xs x =
+  push_total xs x =
       omega (
         arith,
-        up-total (up_run key d (length xs) (xs ++ (x ∷ [])) (length xs) (omega arith)) (omega (arith, length-append xs (x ∷ []))),
+        up_total (up_run key d (length xs) (xs ++ (x ∷ [])) (length xs) (omega arith)) (omega (arith, length-append xs (x ∷ []))),
         total_append w xs (x ∷ []),
       )
 
@@ -45,9 +45,9 @@ module _ {A : Type 0} (key : A → ℕ) (d : A) (w : A → ℕ) where
         cond-ref (λ (r : Moved A). total w r.list + w (get_or xs i d) ≡ total w xs) (ref_eq i (length xs - 1))
         (λ e. omega (arith, last_total d xs i h w, ap (λ (k : ℕ). w (get_or xs k d)) e))
         (λ m. cond-ref (λ (r : Moved A). total w r.list + w (get_or xs i d) ≡ total w xs) (ref_lt (at key d xs (length xs - 1)) (at key d xs i))
-        (λ l. omega (arith, fill_total d xs i h w (omega arith), up-total (up_run key d (length xs - 1) (fill d xs i) i (omega arith)) (omega (arith, fill_length d xs i h))))
+        (λ l. omega (arith, fill_total d xs i h w (omega arith), up_total (up_run key d (length xs - 1) (fill d xs i) i (omega arith)) (omega (arith, fill_length d xs i h))))
         (λ l. omega (
           arith,
           fill_total d xs i h w (omega arith),
-          down-total (down_run key d (length xs - 1) (fill d xs i) (length xs - 1) i (omega arith)) (omega (arith, fill_length d xs i h)) (omega arith),
+          down_total (down_run key d (length xs - 1) (fill d xs i) (length xs - 1) i (omega arith)) (omega (arith, fill_length d xs i h)) (omega arith),
         )))

@@ -10,13 +10,13 @@ use lib.Seq.{get_or-set_same, get_or-set_other, get_or-take, length-take-le, lt-
 use Rattle.theory.specs.Order.{Swapped}
 use Rattle.theory.specs.Heap.{swap_at, fill}
 use Rattle.theory.specs.Weights.{total}
-use Rattle.theory.proofs.Weights.{total-set, total-last}
+use Rattle.theory.proofs.Weights.{total_set, total_last}
 
 module _ {A : Type 0} (d : A) where
   -- an exchange keeps the length
-  pub length-swap : (xs : List A) (i j : ℕ) → length (swap_at d xs i j) ≡ length xs
+  pub length_swap : (xs : List A) (i j : ℕ) → length (swap_at d xs i j) ≡ length xs
   unfolding swap_at
-  length-swap xs i j = simp length-set
+  length_swap xs i j = simp length-set
 
   module _ (xs : List A) (i j : ℕ) (hi : i < length xs) (hj : j < length xs) (n : i ≢ j) where
     -- at i stands what stood at j
@@ -44,8 +44,8 @@ module _ {A : Type 0} (d : A) where
     total_swap w =
         omega (
           arith,
-          total-set w d xs i (get_or xs j d) hi,
-          total-set w d (set xs i (get_or xs j d)) j (get_or xs i d) (lt-length-set xs i (get_or xs j d) hj),
+          total_set w d xs i (get_or xs j d) hi,
+          total_set w d (set xs i (get_or xs j d)) j (get_or xs i d) (lt-length-set xs i (get_or xs j d) hj),
           ap w (get_or-set_other xs i j (get_or xs j d) d (λ e. n (sym e))),
         )
 
@@ -67,7 +67,7 @@ module _ {A : Type 0} (d : A) where
 
     -- the list without its last entry, and that entry, weigh what the list weighs
     pub last_total : (w : A → ℕ) → total w (take (length xs - 1) xs) + w (get_or xs (length xs - 1) d) ≡ total w xs
-    last_total w = total-last w d xs (length xs - 1) (omega arith)
+    last_total w = total_last w d xs (length xs - 1) (omega arith)
 
     -- the weight falls by that of the entry that stood at i
     pub fill_total : (w : A → ℕ) → i < length xs - 1 → total w (fill d xs i) + w (get_or xs i d) ≡ total w xs
@@ -77,5 +77,5 @@ module _ {A : Type 0} (d : A) where
           arith,
           last_total w,
           ap w (get_or-take (length xs - 1) xs i d b),
-          total-set w d (take (length xs - 1) xs) i (get_or xs (length xs - 1) d) (omega (arith, length-take-le (length xs - 1) xs (omega arith))),
+          total_set w d (take (length xs - 1) xs) i (get_or xs (length xs - 1) d) (omega (arith, length-take-le (length xs - 1) xs (omega arith))),
         )

@@ -15,69 +15,69 @@ use Rattle.theory.specs.WrongStep.{met_at, met_before, FineTo}
 use Rattle.theory.proofs.Tests.{true_false, none_some, ref_true, true_ref}
 use Rattle.theory.proofs.First.{none_all, some_first}
 use Rattle.theory.proofs.Pigeonhole.{pigeonhole, few, lists_length}
-use Rattle.theory.proofs.Chain.{chain-nodes, chain-distinct}
-use Rattle.theory.proofs.Steps.{met-none, ref-before, nodes-met, met-nodes, nodes-apart}
+use Rattle.theory.proofs.Chain.{chain_nodes, chain_distinct}
+use Rattle.theory.proofs.Steps.{met_none, ref_before, nodes_met, met_nodes, nodes_apart}
 
 module _ (ok : ℕ → Bool) (next : ℕ → Option ℕ) where
   -- the head passes, and from the next on one step fewer is in order
-  pub fine-head : (k x : ℕ) → FineTo ok next (some x) (suc k) → ok x ≡ true
+  pub fine_head : (k x : ℕ) → FineTo ok next (some x) (suc k) → ok x ≡ true
   unfolding met_at
-  fine-head k x f =
+  fine_head k x f =
       let q = f.passes 0 (omega arith) in
       let e : q.0 ≡ x = cc in
       ap ok (sym e) ∙ q.2
 
-  pub fine-tail : (k x : ℕ) → FineTo ok next (some x) (suc k) → FineTo ok next (next x) k
+  pub fine_tail : (k x : ℕ) → FineTo ok next (some x) (suc k) → FineTo ok next (next x) k
   unfolding met_at
-  fine-tail k x f = record {
+  fine_tail k x f = record {
     passes = λ j l. f.passes (suc j) (omega arith);
     apart = λ i j y l m p q. f.apart (suc i) (suc j) y (omega arith) (omega arith) p q;
   }
 
   -- no step of no chain is in order
-  pub fine-none : (k : ℕ) → FineTo ok next none (suc k) → ⊥
-  fine-none k f = let q = f.passes 0 (omega arith) in met-none next 0 q.0 q.1
+  pub fine_none : (k : ℕ) → FineTo ok next none (suc k) → ⊥
+  fine_none k f = let q = f.passes 0 (omega arith) in met_none next 0 q.0 q.1
 
   -- each of the numbers met passes
-  pub fine-ok : (k : ℕ) (h : Option ℕ) → FineTo ok next h k → (j x : ℕ) → j < k → met_at next h j ≡ some x → ok x ≡ true
-  fine-ok k h f j x l e =
+  pub fine_ok : (k : ℕ) (h : Option ℕ) → FineTo ok next h k → (j x : ℕ) → j < k → met_at next h j ≡ some x → ok x ≡ true
+  fine_ok k h f j x l e =
       let q = f.passes j l in
       let d : q.0 ≡ x = cc in
       ap ok (sym d) ∙ q.2
 
   -- k nodes, and no two the same
-  fine-long : (k : ℕ) (h : Option ℕ) → FineTo ok next h k → length (nodes next k h) ≡ k
+  fine_long : (k : ℕ) (h : Option ℕ) → FineTo ok next h k → length (nodes next k h) ≡ k
   unfolding nodes
-  fine-long zero h f = refl
-  fine-long (suc k) none f = absurd (fine-none k f)
-  fine-long (suc k) (some x) f = ap suc (fine-long k (next x) (fine-tail k x f))
+  fine_long zero h f = refl
+  fine_long (suc k) none f = absurd (fine_none k f)
+  fine_long (suc k) (some x) f = ap suc (fine_long k (next x) (fine_tail k x f))
 
-  fine-distinct : (k : ℕ) (h : Option ℕ) → FineTo ok next h k → Distinct (nodes next k h)
+  fine_distinct : (k : ℕ) (h : Option ℕ) → FineTo ok next h k → Distinct (nodes next k h)
   unfolding nodes met_at
-  fine-distinct zero h f = tt
-  fine-distinct (suc k) none f = tt
-  fine-distinct (suc k) (some x) f = (
+  fine_distinct zero h f = tt
+  fine_distinct (suc k) none f = tt
+  fine_distinct (suc k) (some x) f = (
     λ m.
-        let q = nodes-met next k (next x) x m in
+        let q = nodes_met next k (next x) x m in
         let l = q.1 in
         f.apart 0 (suc q.0) x (omega arith) (omega arith) refl q.2,
-    fine-distinct k (next x) (fine-tail k x f),
+    fine_distinct k (next x) (fine_tail k x f),
   )
 
   -- where the chain has ended then, the walk of k nodes says yes
-  pub fine-walk : (k : ℕ) (h : Option ℕ) → FineTo ok next h k → met_at next h k ≡ none → walkb ok next k h ≡ true
+  pub fine_walk : (k : ℕ) (h : Option ℕ) → FineTo ok next h k → met_at next h k ≡ none → walkb ok next k h ≡ true
   unfolding walkb met_at
-  fine-walk zero none f e = refl
-  fine-walk zero (some x) f e = absurd (none_some e refl)
-  fine-walk (suc k) none f e = absurd (fine-none k f)
-  fine-walk (suc k) (some x) f e = rw (fine-head k x f) (fine-walk k (next x) (fine-tail k x f) e)
+  fine_walk zero none f e = refl
+  fine_walk zero (some x) f e = absurd (none_some e refl)
+  fine_walk (suc k) none f e = absurd (fine_none k f)
+  fine_walk (suc k) (some x) f e = rw (fine_head k x f) (fine_walk k (next x) (fine_tail k x f) e)
 
   -- as many steps of a chain are in order as it has nodes, and then it has ended
-  pub chain-fine : (l : List ℕ) (h : Option ℕ) → Chain ok next h l → FineTo ok next h (length l)
+  pub chain_fine : (l : List ℕ) (h : Option ℕ) → Chain ok next h l → FineTo ok next h (length l)
   unfolding met_at
-  chain-fine l h c = record {
+  chain_fine l h c = record {
     passes = met l h c;
-    apart = nodes-apart next (length l) h (subst Distinct (sym (chain-nodes ok next l h c)) (chain-distinct ok next l h c));
+    apart = nodes_apart next (length l) h (subst Distinct (sym (chain_nodes ok next l h c)) (chain_distinct ok next l h c));
   }
     where
       met : (l : List ℕ) (h : Option ℕ) → Chain ok next h l → (j : ℕ) → j < length l → (x : ℕ) × (met_at next h j ≡ some x) × (ok x ≡ true)
@@ -88,30 +88,30 @@ module _ (ok : ℕ → Bool) (next : ℕ → Option ℕ) where
           let e : x ≡ y = cc in
           met m (next y) (subst (λ (z : ℕ). Chain ok next (next z) m) e c.2) j (omega arith)
 
-  pub chain-ended : (l : List ℕ) (h : Option ℕ) → Chain ok next h l → met_at next h (length l) ≡ none
+  pub chain_ended : (l : List ℕ) (h : Option ℕ) → Chain ok next h l → met_at next h (length l) ≡ none
   unfolding met_at
-  chain-ended [] h c = c
-  chain-ended (x ∷ l) none c = refl
-  chain-ended (x ∷ l) (some y) c =
+  chain_ended [] h c = c
+  chain_ended (x ∷ l) none c = refl
+  chain_ended (x ∷ l) (some y) c =
       let e : x ≡ y = cc in
-      chain-ended l (next y) (subst (λ (z : ℕ). Chain ok next (next z) l) e c.2)
+      chain_ended l (next y) (subst (λ (z : ℕ). Chain ok next (next z) l) e c.2)
 
   module _ (cap : ℕ) (below : (x : ℕ) → ok x ≡ true → x < cap) (h : Option ℕ) where
     inside : (k : ℕ) → FineTo ok next h k → (y : ℕ) → Mem y (nodes next k h) → (y < cap) × (ok y ≡ true)
     inside k f y m =
-        let q = nodes-met next k h y m in
-        let o = fine-ok k h f q.0 y q.1 q.2 in
+        let q = nodes_met next k h y m in
+        let o = fine_ok k h f q.0 y q.1 q.2 in
         (below y o, o)
 
     -- no more steps are in order than numbers pass
     pub fine_few : (k : ℕ) → FineTo ok next h k → k ≤ count ok cap
-    fine_few k f = omega (arith, fine-long k h f, few (nodes next k h) ok cap (fine-distinct k h f) (inside k f))
+    fine_few k f = omega (arith, fine_long k h f, few (nodes next k h) ok cap (fine_distinct k h f) (inside k f))
 
     -- where as many are, each number that passes was met
     pub fine_all : (k : ℕ) → FineTo ok next h k → k ≡ count ok cap → (x : ℕ) → ok x ≡ true → (j : ℕ) × (j < k) × (met_at next h j ≡ some x)
     fine_all k f e x o =
-        nodes-met next k h x
-        (pigeonhole (nodes next k h) ok cap (fine-distinct k h f) (inside k f) (fine-long k h f ∙ e) x (below x o) o)
+        nodes_met next k h x
+        (pigeonhole (nodes next k h) ok cap (fine_distinct k h f) (inside k f) (fine_long k h f ∙ e) x (below x o) o)
 
     -- where fewer are, one is missing
     pub fine_missing : (k : ℕ) → FineTo ok next h k → k < count ok cap
@@ -123,23 +123,23 @@ module _ (ok : ℕ → Bool) (next : ℕ → Option ℕ) where
 
         met : (x : ℕ) (b : Bool) → ok x ≡ b → (not b || met_before next h k x) ≡ true → ok x ≡ true → Mem x (nodes next k h)
         met x true p e o =
-            let q = ref_true (ref-before next k h x) e in
-            met-nodes next k h q.0 x q.1 q.2
+            let q = ref_true (ref_before next k h x) e in
+            met_nodes next k h q.0 x q.1 q.2
         met x false p e o = true_false o p
 
         lost : (x : ℕ) (b : Bool) → ok x ≡ b → (not b || met_before next h k x) ≡ false
             → (ok x ≡ true) × ((j : ℕ) → j < k → met_at next h j ≡ some x → ⊥)
-        lost x true p e = (p, λ j l q. true_false (true_ref (ref-before next k h x) (j, l, q)) e)
+        lost x true p e = (p, λ j l q. true_false (true_ref (ref_before next k h x) (j, l, q)) e)
         lost x false p e = true_false refl e
 
         go : (o : Option ℕ) → first_bad seen cap 0 ≡ o → (x : ℕ) × (x < cap) × (ok x ≡ true) × ((j : ℕ) → j < k → met_at next h j ≡ some x → ⊥)
         go none e =
             let s : Lists ok cap (nodes next k h) = record {
-              once = fine-distinct k h f;
+              once = fine_distinct k h f;
               sound = inside k f;
               whole = λ x b o. met x (ok x) refl (none_all seen cap 0 e x (omega arith) (omega arith)) o;
             } in
-            absurd (omega (arith, lists_length (nodes next k h) ok cap s, fine-long k h f))
+            absurd (omega (arith, lists_length (nodes next k h) ok cap s, fine_long k h f))
         go (some x) e =
             let q = some_first seen cap 0 x e in
             let b = q.1 in

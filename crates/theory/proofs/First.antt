@@ -17,10 +17,10 @@ module _ (ok : ℕ → Bool) where
   first_goes (suc n) k h e = let m : n ≡ suc n - 1 = omega arith in rw e (ap (λ (j : ℕ). first_bad ok j (k + 1)) m)
 
   -- a turn that finds one
-  pub first-here : (n k : ℕ) → 0 < n → ok k ≡ false → first_bad ok n k ≡ some k
+  pub first_here : (n k : ℕ) → 0 < n → ok k ≡ false → first_bad ok n k ≡ some k
   unfolding first_bad
-  first-here zero k h e = absurd (omega arith)
-  first-here (suc n) k h e = rw e
+  first_here zero k h e = absurd (omega arith)
+  first_here (suc n) k h e = rw e
 
   -- no number is left
   pub first_done : (n k : ℕ) → n ≡ 0 → first_bad ok n k ≡ none

@@ -40,10 +40,10 @@ module _ (f : ℕ → Option ℕ) where
   Told n none = (i : ℕ) → i < n → f i ≡ none
   Told n (some t) = Found n t
 
-  pub least-told : (n : ℕ) → Told n (least_below ltb f n)
+  pub least_told : (n : ℕ) → Told n (least_below ltb f n)
   unfolding least_below
-  least-told zero = λ i l. absurd (omega arith)
-  least-told (suc n) = step (least_below ltb f n) (least-told n) (f n) refl
+  least_told zero = λ i l. absurd (omega arith)
+  least_told (suc n) = step (least_below ltb f n) (least_told n) (f n) refl
     where
       both : (P : ℕ → Type 0) → ((i : ℕ) → i < n → P i) → P n → (i : ℕ) → i < suc n → P i
       both P lower last i l = by-ref (ref_eq i n) (λ e. subst P (sym e) last) (λ d. lower i (omega arith))

@@ -11,14 +11,14 @@ use Rattle.theory.proofs.Tests.{yes-isYes, no-isYes}
 
 module _ {A : Type 0} (d : Discrete A) (a : A) where
   -- a in front stands once more in the list
-  pub times-same : (xs : List A) → times d a (a ∷ xs) ≡ suc (times d a xs)
+  pub times_same : (xs : List A) → times d a (a ∷ xs) ≡ suc (times d a xs)
   unfolding times
-  times-same xs = rw (yes-isYes (d a a) refl) (omega arith)
+  times_same xs = rw (yes-isYes (d a a) refl) (omega arith)
 
   -- another element in front makes no difference to how often a stands there
-  pub times-other : (x : A) (xs : List A) → a ≢ x → times d a (x ∷ xs) ≡ times d a xs
+  pub times_other : (x : A) (xs : List A) → a ≢ x → times d a (x ∷ xs) ≡ times d a xs
   unfolding times
-  times-other x xs n = rw (no-isYes (d a x) n) (omega arith)
+  times_other x xs n = rw (no-isYes (d a x) n) (omega arith)
 
   -- a list with a in front has a
   pub has_same : (xs : List A) → has d a (a ∷ xs) ≡ true

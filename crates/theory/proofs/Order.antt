@@ -30,8 +30,8 @@ module _ {f g : ℕ → ℕ} {n i : ℕ} (u : UpOrd f n i) (pos : 0 < i) (inside
       go (apart a b z) (second c e) = omega (arith, u.rest k p h a, ap f c)
       go (apart a b z) (apart c e q) = omega (arith, u.rest k p h a)
 
-  up-over : (k : ℕ) → 0 < k → k < n → 0 < parent i → parent k ≡ parent i → g (parent (parent i)) ≤ g k
-  up-over k p h q e = go (place_of s k)
+  up_over : (k : ℕ) → 0 < k → k < n → 0 < parent i → parent k ≡ parent i → g (parent (parent i)) ≤ g k
+  up_over k p h q e = go (place_of s k)
     where
       same : g (parent (parent i)) ≡ f (parent (parent i))
       same = s.other (parent (parent i)) (omega arith) (omega arith)
@@ -46,7 +46,7 @@ module _ {f g : ℕ → ℕ} {n i : ℕ} (u : UpOrd f n i) (pos : 0 < i) (inside
 
   -- i was out of order with its parent and is exchanged with it: now only the parent's place may be
   pub up_step : UpOrd g n (parent i)
-  up_step = record { rest = up_rest; over = up-over }
+  up_step = record { rest = up_rest; over = up_over }
 
 -- ordered but for i against its parent, and in order there too: a heap
 pub up_stop : {f : ℕ → ℕ} {n i : ℕ} → UpOrd f n i → (0 < i → f (parent i) ≤ f i) → Heap f n
@@ -58,8 +58,8 @@ down_stop {f} {i = i} u t k p h = split (parent k) i (λ e. omega (arith, t k p 
 
 module _ {f g : ℕ → ℕ} {n i c : ℕ} (u : DownOrd f n i) (pos : 0 < c) (inside : c < n) (child : parent c ≡ i) (less : f c < f i)
     (least : Under f n i (f c)) (s : Swapped f g i c) where
-  down-rest : (k : ℕ) → 0 < k → k < n → parent k ≢ c → g (parent k) ≤ g k
-  down-rest k p h m = go (place_of s k) (place_of s (parent k))
+  down_rest : (k : ℕ) → 0 < k → k < n → parent k ≢ c → g (parent k) ≤ g k
+  down_rest k p h m = go (place_of s k) (place_of s (parent k))
     where
       go : Place f g i c k → Place f g i c (parent k) → g (parent k) ≤ g k
       go v (second a b) = omega arith
@@ -70,12 +70,12 @@ module _ {f g : ℕ → ℕ} {n i c : ℕ} (u : DownOrd f n i) (pos : 0 < c) (in
       go (apart a b w) (first e z) = omega (arith, least k p h e)
       go (apart a b w) (apart e q z) = omega (arith, u.rest k p h e)
 
-  down-over : (k : ℕ) → 0 < k → k < n → 0 < c → parent k ≡ c → g (parent c) ≤ g k
-  down-over k p h _ e = omega (arith, ap g child, s.left, s.other k (omega arith) (omega arith), u.rest k p h (omega arith), ap f e)
+  down_over : (k : ℕ) → 0 < k → k < n → 0 < c → parent k ≡ c → g (parent c) ≤ g k
+  down_over k p h _ e = omega (arith, ap g child, s.left, s.other k (omega arith) (omega arith), u.rest k p h (omega arith), ap f e)
 
   -- i was out of order with its children and is exchanged with a least one: now only that child's place may be
   pub down_step : DownOrd g n c
-  down_step = record { rest = down-rest; over = down-over }
+  down_step = record { rest = down_rest; over = down_over }
 
 module _ {f : ℕ → ℕ} {n : ℕ} (o : Heap f n) where
   least_by : (fuel k : ℕ) → k ≤ fuel → k < n → f 0 ≤ f k
@@ -85,8 +85,8 @@ module _ {f : ℕ → ℕ} {n : ℕ} (o : Heap f n) where
       (λ m. omega (arith, o k (omega arith) h, least_by fuel (parent k) (omega arith) (omega arith)))
 
   -- no place of a heap holds less than the first
-  pub head-least : (k : ℕ) → k < n → f 0 ≤ f k
-  head-least k h = least_by k k (omega arith) h
+  pub head_least : (k : ℕ) → k < n → f 0 ≤ f k
+  head_least k h = least_by k k (omega arith) h
 
 -- g is a heap f below n, but for what it holds at i
 module _ {f g : ℕ → ℕ} {m n i : ℕ} (o : Heap f m) (within : n ≤ m) (inside : i < n) (same : (k : ℕ) → k < n → k ≢ i → g k ≡ f k) where

@@ -24,12 +24,12 @@ module _ {A B : Type 0} (f : A → B) (d : A) (l : List A) (x : ℕ) (t : A) whe
       ∙ get_or-map f (set l x t) y d
 
   -- f sees no difference at the other places
-  pub sees-other : (y : ℕ) → (y ≡ x → ⊥) → f (get_or l y d) ≡ f (get_or (set l x t) y d)
-  sees-other y n = ap f (sym (get_or-set_other l x y t d n))
+  pub sees_other : (y : ℕ) → (y ≡ x → ⊥) → f (get_or l y d) ≡ f (get_or (set l x t) y d)
+  sees_other y n = ap f (sym (get_or-set_other l x y t d n))
 
   -- at the place itself f sees the new entry
-  pub sees-here : x < length l → f (get_or (set l x t) x d) ≡ f t
-  sees-here h = ap f (get_or-set_same l x t d h)
+  pub sees_here : x < length l → f (get_or (set l x t) x d) ≡ f t
+  sees_here h = ap f (get_or-set_same l x t d h)
 
 -- a list is as long as its image: with this, `search (needs, unmapped)` finds how long an array of structs in a struct is
 pub unmapped : {A B : Type 0} (f : A → B) (l : List A) (n : ℕ) → length (map f l) ≡ n → length l ≡ n

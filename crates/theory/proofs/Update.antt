@@ -16,8 +16,8 @@ module _ {A B : Type 0} (d : Discrete A) (f : A → B) (a : A) (b : B) where
   upd_other x n = if_neg (d x a) n b (f x)
 
   -- a property that the new value has there and the old values have elsewhere holds at every argument
-  pub upd-all : (P : A → B → Type 0) → P a b → ((x : A) → x ≢ a → P x (f x)) → (x : A) → P x (upd d f a b x)
-  upd-all P here there x =
+  pub upd_all : (P : A → B → Type 0) → P a b → ((x : A) → x ≢ a → P x (f x)) → (x : A) → P x (upd d f a b x)
+  upd_all P here there x =
       by_cases (d x a)
       (λ e. subst (λ (y : A). P y (upd d f a b y)) (sym e) (subst (λ (c : B). P a c) (sym upd_same) here))
       (λ n. subst (λ (c : B). P x c) (sym (upd_other x n)) (there x n))

@@ -12,9 +12,9 @@ use Rattle.theory.specs.First.{first_bad}
 use Rattle.theory.specs.WrongStep.{met_at, met_before, step_ok, wrong_step}
 use Rattle.theory.proofs.Tests.{none_some}
 use Rattle.theory.proofs.Order.{split}
-use Rattle.theory.proofs.First.{first_goes, first-here, first_done}
-use Rattle.theory.proofs.Steps.{met_next, before_here, before-there}
-use Rattle.theory.proofs.WrongStep.{step-none, step-some, none-fine}
+use Rattle.theory.proofs.First.{first_goes, first_here, first_done}
+use Rattle.theory.proofs.Steps.{met_next, before_here, before_there}
+use Rattle.theory.proofs.WrongStep.{step_none, step_some, none_fine}
 
 module _ (ok : ℕ → Bool) (next : ℕ → Option ℕ) (cap : ℕ) (h : Option ℕ) where
   -- after k steps the walk stands at someone or at the end, has marked whom it met, and has found nothing wrong
@@ -25,9 +25,9 @@ module _ (ok : ℕ → Bool) (next : ℕ → Option ℕ) (cap : ℕ) (h : Option
     pub rest : first_bad (step_ok ok next (count ok cap) h) (count ok cap + 1 - k) k ≡ wrong_step ok next cap h
 
   -- it begins at the head, with nobody marked
-  pub walk-starts : {met : ℕ → Bool} → ((x : ℕ) → x < cap → met x ≡ false) → Walking 0 h met
+  pub walk_starts : {met : ℕ → Bool} → ((x : ℕ) → x < cap → met x ≡ false) → Walking 0 h met
   unfolding wrong_step met_at met_before
-  walk-starts f =
+  walk_starts f =
       let e : count ok cap + 1 - 0 ≡ count ok cap + 1 = omega arith in
       record {
         within = omega arith;
@@ -41,38 +41,38 @@ module _ (ok : ℕ → Bool) (next : ℕ → Option ℕ) (cap : ℕ) (h : Option
     here : {at : Option ℕ} → Walking k at met → step_ok ok next (count ok cap) h k ≡ false → wrong_step ok next cap h ≡ some k
     here w e =
         let l = w.within in
-        sym w.rest ∙ first-here (step_ok ok next (count ok cap) h) (count ok cap + 1 - k) k (omega arith) e
+        sym w.rest ∙ first_here (step_ok ok next (count ok cap) h) (count ok cap + 1 - k) k (omega arith) e
 
     -- it has ended too soon
     pub walk_short : Walking k none met → k < count ok cap → wrong_step ok next cap h ≡ some k
-    walk_short w l = here w (step-none ok next h (count ok cap) k w.stands ∙ ne_eqb k (count ok cap) (λ e. omega arith))
+    walk_short w l = here w (step_none ok next h (count ok cap) k w.stands ∙ ne_eqb k (count ok cap) (λ e. omega arith))
 
     module _ {x : ℕ} (w : Walking k (some x) met) where
       -- it meets one who does not pass
-      pub walk-stranger : ok x ≡ false → wrong_step ok next cap h ≡ some k
-      walk-stranger o = here w (step-some ok next h (count ok cap) k x w.stands ∙ rw o)
+      pub walk_stranger : ok x ≡ false → wrong_step ok next cap h ≡ some k
+      walk_stranger o = here w (step_some ok next h (count ok cap) k x w.stands ∙ rw o)
 
       -- it meets one who is marked
-      pub walk-again : x < cap → met x ≡ true → wrong_step ok next cap h ≡ some k
-      walk-again l m = here w (step-some ok next h (count ok cap) k x w.stands ∙ rw (sym (w.marked x l) ∙ m) (no (ok x)))
+      pub walk_again : x < cap → met x ≡ true → wrong_step ok next cap h ≡ some k
+      walk_again l m = here w (step_some ok next h (count ok cap) k x w.stands ∙ rw (sym (w.marked x l) ∙ m) (no (ok x)))
         where
           no : (b : Bool) → (b && false) ≡ false
           no true = refl
           no false = refl
 
       -- it meets one who passes and is not marked, marks him and goes on
-      pub walk-goes : {met' : ℕ → Bool} → k < count ok cap → x < cap → ok x ≡ true → met x ≡ false → met' x ≡ true
+      pub walk_goes : {met' : ℕ → Bool} → k < count ok cap → x < cap → ok x ≡ true → met x ≡ false → met' x ≡ true
           → ((y : ℕ) → y ≢ x → met' y ≡ met y) → Walking (k + 1) (next x) met'
-      walk-goes {met'} l b o m t f =
+      walk_goes {met'} l b o m t f =
           let s : step_ok ok next (count ok cap) h k ≡ true =
-          step-some ok next h (count ok cap) k x w.stands ∙ rw (o, sym (w.marked x b) ∙ m) in
+          step_some ok next h (count ok cap) k x w.stands ∙ rw (o, sym (w.marked x b) ∙ m) in
           let e : count ok cap + 1 - (k + 1) ≡ count ok cap + 1 - k - 1 = omega arith in
           record {
             within = omega arith;
             stands = met_next next k h w.stands;
             marked = λ y c. split y x
                 (λ q. ap met' q ∙ t ∙ sym (ap (met_before next h (k + 1)) q ∙ before_here next k h w.stands))
-                (λ q. f y q ∙ w.marked y c ∙ sym (before-there next k h w.stands q));
+                (λ q. f y q ∙ w.marked y c ∙ sym (before_there next k h w.stands q));
             rest = ap (λ (i : ℕ). first_bad (step_ok ok next (count ok cap) h) i (k + 1)) e
                 ∙ sym (first_goes (step_ok ok next (count ok cap) h) (count ok cap + 1 - k) k (omega arith) s)
                 ∙ w.rest;
@@ -82,14 +82,14 @@ module _ (ok : ℕ → Bool) (next : ℕ → Option ℕ) (cap : ℕ) (h : Option
       -- it has met as many as pass, and has ended
       pub walk_ends : Walking k none met → wrong_step ok next cap h ≡ none
       walk_ends w =
-          let s : step_ok ok next (count ok cap) h k ≡ true = step-none ok next h (count ok cap) k w.stands ∙ eq-eqb k (count ok cap) z in
+          let s : step_ok ok next (count ok cap) h k ≡ true = step_none ok next h (count ok cap) k w.stands ∙ eq-eqb k (count ok cap) z in
           sym w.rest
           ∙ first_goes (step_ok ok next (count ok cap) h) (count ok cap + 1 - k) k (omega arith) s
           ∙ first_done (step_ok ok next (count ok cap) h) (count ok cap + 1 - k - 1) (k + 1) (omega arith)
 
       -- it has met as many as pass, and goes on
-      pub walk-long : ((x : ℕ) → ok x ≡ true → x < cap) → {x : ℕ} → Walking k (some x) met → wrong_step ok next cap h ≡ some k
-      walk-long below {x} w = go (step_ok ok next (count ok cap) h k) refl
+      pub walk_long : ((x : ℕ) → ok x ≡ true → x < cap) → {x : ℕ} → Walking k (some x) met → wrong_step ok next cap h ≡ some k
+      walk_long below {x} w = go (step_ok ok next (count ok cap) h k) refl
         where
           go : (b : Bool) → step_ok ok next (count ok cap) h k ≡ b → wrong_step ok next cap h ≡ some k
           go false e = here w e
@@ -98,4 +98,4 @@ module _ (ok : ℕ → Bool) (next : ℕ → Option ℕ) (cap : ℕ) (h : Option
               sym w.rest
               ∙ first_goes (step_ok ok next (count ok cap) h) (count ok cap + 1 - k) k (omega arith) e
               ∙ first_done (step_ok ok next (count ok cap) h) (count ok cap + 1 - k - 1) (k + 1) (omega arith) in
-              absurd (none_some (none-fine ok next h cap below q).1 (ap (met_at next h) (sym z) ∙ w.stands))
+              absurd (none_some (none_fine ok next h cap below q).1 (ap (met_at next h) (sym z) ∙ w.stands))

@@ -82,10 +82,10 @@ pub record Popped (A : Type 0) : Type 0 where
 module _ {A : Type 0} (key : A → ℕ) (d : A) where
   -- pops while the head's key is at most m. The first number is the LIMIT: at most that many are popped. The full run is the case
   -- where the limit is the count of the entries
-  unfoldable pub popWhile : ℕ → List A → ℕ → Popped A
-  popWhile zero xs m = record { out = []; left = xs }
-  popWhile (suc f) [] m = record { out = []; left = [] }
-  popWhile (suc f) (x ∷ xs) m =
-      let r = popWhile f (removeAt key d (x ∷ xs) 0).list m in
+  unfoldable pub pop_while : ℕ → List A → ℕ → Popped A
+  pop_while zero xs m = record { out = []; left = xs }
+  pop_while (suc f) [] m = record { out = []; left = [] }
+  pop_while (suc f) (x ∷ xs) m =
+      let r = pop_while f (removeAt key d (x ∷ xs) 0).list m in
       let s : Popped A = record { out = x ∷ r.out; left = r.left } in
       cond (leb (key x) m) s (record { out = []; left = x ∷ xs })

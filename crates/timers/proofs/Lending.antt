@@ -30,6 +30,6 @@ module _ (s : Set) (l : List ℕ) (o : Outcome Lent Value) where
       ap (λ (x : Outcome Set Value). with_list l x) h ∙ sym (through_both s p (lent s l) (roomy s l o) ∙ rw b)
 
   -- one let through with a list that is long enough is made
-  pub long-enough : (sound_of s ≡ true) × (s.closed ≡ false) → cap ≤ length l
+  pub long_enough : (sound_of s ≡ true) × (s.closed ≡ false) → cap ≤ length l
       → o ≡ guarded s (lent s l) (opened s (lent s l) (roomy s l o))
-  long-enough p n = let b = le-leb cap (length l) n in sym (through_both s p (lent s l) (roomy s l o) ∙ rw b)
+  long_enough p n = let b = le-leb cap (length l) n in sym (through_both s p (lent s l) (roomy s l o) ∙ rw b)

@@ -1,9 +1,9 @@
 -- One number.
 -- Assumes nothing.
-use Rattle.digits.proofs.Stores.{puts-number}
+use Rattle.digits.proofs.Stores.{puts_number}
 use Rattle.cells.specs.Cells.{slot_bytes}
 use Rattle.cells.proofs.put_slot.Goals as goal
 
 pub returns : goal.returns
 unfolding slot_bytes
-returns c = puts-number 2 c.slot_number.ensures c.put.ensures
+returns c = puts_number 2 c.slot_number.ensures c.put.ensures

@@ -7,7 +7,7 @@ use native.Mathlib.Omega.{arith}
 use lib.Dec.{eqb}
 use lib.ListN.{get_or}
 use Rattle.theory.proofs.Tests.{ref_eq, true_ref, false_ref}
-use Rattle.digits.proofs.Passing.{all_none, all_more, all-not}
+use Rattle.digits.proofs.Passing.{all_none, all_more, all_not}
 use Rattle.digits.proofs.zeros.Invariants.{Going}
 use Rattle.digits.proofs.zeros.Goals as goal
 
@@ -26,7 +26,7 @@ loop-i-init c =
 pub returns-then-bytes-at-ne0 : goal.returns-then-bytes-at-ne0
 returns-then-bytes-at-ne0 c =
     let a = c.args in
-    sym (all-not (λ j. eqb (get_or a.bytes.now (a.at + j) 0) 0) a.k c.loop-i.i c.loop-i-test.true
+    sym (all_not (λ j. eqb (get_or a.bytes.now (a.at + j) 0) 0) a.k c.loop-i.i c.loop-i-test.true
     (false_ref (ref_eq (get_or a.bytes.now (a.at + c.loop-i.i) 0) 0) c.if-bytes-at-ne0.true))
 
 pub loop-i-preserved : goal.loop-i-preserved

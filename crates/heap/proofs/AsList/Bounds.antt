@@ -11,7 +11,7 @@ use Rattle.theory.specs.Logarithm.{log2}
 use Rattle.theory.proofs.Order.{split}
 use Rattle.theory.proofs.Tests.{ref_lt, ref_eq, cond-ref}
 use Rattle.theory.proofs.Logarithm.{log2_pow}
-use Rattle.theory.proofs.Swaps.{push-log, remove-log}
+use Rattle.theory.proofs.Swaps.{push_log, remove_log}
 use Rattle.refusals.specs.Answer.{Answer, accepted, refused, unsound, Outcome}
 use Rattle.heap.specs.Capacity.{cap}
 use Rattle.heap.specs.declared.Slot.{Slot}
@@ -31,23 +31,23 @@ use Rattle.heap.proofs.AsList.ItemsCalls.{push_walked, remove_walked}
 -- a push takes at most as many swaps as the heap is high afterwards
 pub push_bound : (h : Heap) (at g : ℕ) (place : Place) → h.len < length h.entries → (pushed_of h at g place).swaps ≤ height_of (h.len + 1)
 push_bound h at g place room =
-    omega (arith, walked_swaps (push_walked h at g place room), push-log key no_entry (items h) (new_entry h at g place), ap (λ (n : ℕ). log2 (n + 1)) (items_length h (omega arith)))
+    omega (arith, walked_swaps (push_walked h at g place room), push_log key no_entry (items h) (new_entry h at g place), ap (λ (n : ℕ). log2 (n + 1)) (items_length h (omega arith)))
 
 module _ (h : Heap) (s : Slot) (p : Pos) (fits : h.len ≤ length h.entries) (inside : p.0 < h.len) where
   -- a removal that leaves entries takes at most as many swaps as the heap is high afterwards
-  pub remove-bound : 1 < h.len → (removed_of h s p).swaps ≤ height_of (h.len - 1)
-  remove-bound more =
+  pub remove_bound : 1 < h.len → (removed_of h s p).swaps ≤ height_of (h.len - 1)
+  remove_bound more =
       let n = items_length h fits in
-      omega (arith, walked_swaps (remove_walked h s p fits inside), remove-log key no_entry (items h) p.0 (omega arith) (omega arith), ap (λ (k : ℕ). log2 (k - 1)) n)
+      omega (arith, walked_swaps (remove_walked h s p fits inside), remove_log key no_entry (items h) p.0 (omega arith) (omega arith), ap (λ (k : ℕ). log2 (k - 1)) n)
 
   -- a removal that leaves none takes no swap
-  pub remove-none : h.len ≡ 1 → (removed_of h s p).swaps ≡ 0
+  pub remove_none : h.len ≡ 1 → (removed_of h s p).swaps ≡ 0
   unfolding removed_of filled_of vacated_of
-  remove-none one = rw (eq-eqb p.0 (h.len - 1) (omega arith))
+  remove_none one = rw (eq-eqb p.0 (h.len - 1) (omega arith))
 
   -- so no removal takes more swaps than the heap is high afterwards
-  pub remove-height : (removed_of h s p).swaps ≤ height_of (h.len - 1)
-  remove-height = split h.len 1 (λ one. omega (arith, remove-none one)) (λ n. remove-bound (omega arith))
+  pub remove_height : (removed_of h s p).swaps ≤ height_of (h.len - 1)
+  remove_height = split h.len 1 (λ one. omega (arith, remove_none one)) (λ n. remove_bound (omega arith))
 
 -- THE CALLS: the swaps that a push and a removal of a sound heap answer are within the height of the heap that they leave
 
@@ -76,7 +76,7 @@ push_answers h s at g place t n =
 removed_answers : (h : Heap) → Sound h → (t : Slot) → t.0 < h.made → (x : SlotState) → state_at h t.0 ≡ x → (e : Entry) (n : ℕ)
     → (remove_by h t x).answer ≡ accepted (some (e, n)) → n ≤ height_of (h.len - 1)
 removed_answers h s t b (Full p) f e n q =
-    let r : (removed_of h t p).swaps ≡ n = ap swaps_in q in omega (arith, remove-height h t p (omega arith) (full_back h s t.0 p b f).0)
+    let r : (removed_of h t p).swaps ≡ n = ap swaps_in q in omega (arith, remove_height h t p (omega arith) (full_back h s t.0 p b f).0)
 removed_answers h s t b (Empty k) f e n q = absurd (let z : ◌≡◌ {A = ℕ} 0 1 = cc in omega arith)
 
 -- a removal that leaves n entries: at most the height of n, which is 0 for none

@@ -10,7 +10,7 @@ use lib.Seq.{take-take, take-suc-set}
 use borrow.Author.Tests.{eq-eqb, ne_eqb}
 use Rattle.theory.specs.Heap as T
 use Rattle.theory.proofs.Order.{split}
-use Rattle.theory.proofs.Walks.{up-fuel}
+use Rattle.theory.proofs.Walks.{up_fuel}
 use Rattle.heap.specs.declared.Slot.{Slot}
 use Rattle.heap.specs.declared.Pos.{Pos}
 use Rattle.heap.specs.declared.Place.{Place}
@@ -28,14 +28,14 @@ module _ (h : Heap) (e : Entry) where
   added_len = refl
 
   -- and the same room
-  added-long : length (added_of (taken_of h) e).entries ≡ length h.entries
+  added_long : length (added_of (taken_of h) e).entries ≡ length h.entries
   unfolding added_of taken_of put_at
-  added-long = length-set h.entries h.len e
+  added_long = length-set h.entries h.len e
 
   -- an entry that goes last is last in the list
-  items-added : h.len < length h.entries → items (added_of (taken_of h) e) ≡ items h ++ (e ∷ [])
+  items_added : h.len < length h.entries → items (added_of (taken_of h) e) ≡ items h ++ (e ∷ [])
   unfolding added_of taken_of put_at
-  items-added room = rw (add-one h.len) (take-suc-set h.entries h.len e room)
+  items_added room = rw (add-one h.len) (take-suc-set h.entries h.len e room)
 
 -- a push on the heap is the push on the list
 pub push_walked : (h : Heap) (at g : ℕ) (place : Place) → h.len < length h.entries
@@ -44,7 +44,7 @@ unfolding pushed_of T.push
 push_walked h at g place room =
     let e = new_entry h at g place in
     let n = items_length h (omega arith) in
-    walked_as (added_len h e) (added-long h e) (λ t. T.up_from key no_entry (sym n t) (items-added h e room t) (sym n t))
+    walked_as (added_len h e) (added_long h e) (λ t. T.up_from key no_entry (sym n t) (items_added h e room t) (sym n t))
     (up_walked h.len (added_of (taken_of h) e) h.len 0 (omega (arith, added_len h e)))
 
 -- the last entry in another's place
@@ -74,7 +74,7 @@ fill_walked h p fits lt =
     (λ e. rw (eq-eqb p n e) (walked_as refl refl (λ t. T.stay (sym (take-take n h.len h.entries (omega arith)) t) p) (walked_stay (with_len h n) p 0)))
     (λ m. rw (ne_eqb p n m, items_at h n (omega arith), items_at h p lt)
     (choose (Walked n (length h.entries) 0) (before last (entry_at h p))
-    (walked_as len room ((λ t. T.up_from key no_entry p (items_fill h p fits (omega arith) t) p) ∙ up-fuel key no_entry p n ys p (omega arith) (omega arith))
+    (walked_as len room ((λ t. T.up_from key no_entry p (items_fill h p fits (omega arith) t) p) ∙ up_fuel key no_entry p n ys p (omega arith) (omega arith))
     (up_walked p (filling_of h p) p 0 (omega arith)))
     (walked_as len room (λ t. T.down_from key no_entry n (items_fill h p fits (omega arith) t) (len t) p)
     (down_walked n (filling_of h p) p 0 (omega arith))))))

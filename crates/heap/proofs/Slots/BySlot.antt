@@ -27,10 +27,10 @@ use Rattle.heap.specs.Slab.{Slab}
 use Rattle.heap.specs.Calls.{remove_by, remove_sound, pop_sound}
 use Rattle.heap.proofs.Slots.Slab.{not_full_at}
 use Rattle.heap.proofs.Walking.Steps.{move_last, push_by, remove_by_lem}
-use Rattle.heap.proofs.Slots.FreeHead.{free-view}
-use Rattle.heap.proofs.Slots.Pushing.{grown, grown-last, grown-entry, grown-slot, grown-full, taken-by}
-use Rattle.heap.proofs.Slots.Removing.{here, own, gone-state, gone-full, slab-last, fill_entry, fill_other, fill_alike, slab_fill}
-use Rattle.heap.proofs.Slots.Kept.{remove-full, pop_head}
+use Rattle.heap.proofs.Slots.FreeHead.{free_view}
+use Rattle.heap.proofs.Slots.Pushing.{grown, grown_last, grown_entry, grown_slot, grown_full, taken_by_lem}
+use Rattle.heap.proofs.Slots.Removing.{here, own, gone_state, gone_full, slab_last, fill_entry, fill_other, fill_alike, slab_fill}
+use Rattle.heap.proofs.Slots.Kept.{remove_full, pop_head}
 use Rattle.heap.proofs.Slots.Lookup.{lookup_none, lookup_full, lookup_state, lookup_kept, Holds, swaps_hold}
 
 -- two bounds that a number is below of alike
@@ -42,13 +42,13 @@ below_same k m n f g =
 
 module _ (h : Heap) (s : Slab h) where
   -- before a push nothing stands in the free head
-  pub free-none : lookup h h.free.0 ≡ none
-  free-none =
+  pub free_none : lookup h h.free.0 ≡ none
+  free_none =
       lookup_none h h.free.0
       (⊎_elim
       (λ w. ap (λ (b : Bool). b && full_at h h.free.0) (le-ltb h.free.0 h.made (omega (arith, w.0))))
       (λ w. ap (◌&&◌ (ltb h.free.0 h.made)) (not_full_at h h.free.0 w.0 w.2) ∙ and-false (ltb h.free.0 h.made))
-      (free-view h s))
+      (free_view h s))
 
   module _ (at g : ℕ) (place : Place) (room : h.len < cap) where
     -- after it the new entry stands there
@@ -56,13 +56,13 @@ module _ (h : Heap) (s : Slab h) where
     unfolding added_of put_at
     push_new =
         (push_by (Holds h.free.0 (some (new_entry h at g place))) (swaps_hold h.free.0 (some (new_entry h at g place))) h at g place
-        (taken-by h s at g place room (Holds h.free.0 (some (new_entry h at g place)))
+        (taken_by_lem h s at g place room (Holds h.free.0 (some (new_entry h at g place)))
         (λ m f r k. record {
           slab = k;
           at_slot =
               lookup_full (grown h s at g place room m f) h.free.0 (record { 0 = h.len }) r.1
-              (grown-slot h s at g place room m f (omega (arith, r.1, r.2)))
-              ∙ ap some (grown-last h s at g place room m f);
+              (grown_slot h s at g place room m f (omega (arith, r.1, r.2)))
+              ∙ ap some (grown_last h s at g place room m f);
         }))
         ).at_slot
 
@@ -71,42 +71,42 @@ module _ (h : Heap) (s : Slab h) where
     unfolding added_of put_at
     push_other k n =
         (push_by (Holds k (lookup h k)) (swaps_hold k (lookup h k)) h at g place
-        (taken-by h s at g place room (Holds k (lookup h k))
+        (taken_by_lem h s at g place room (Holds k (lookup h k))
         (λ m f r l. record {
           slab = l;
           at_slot =
               lookup_kept h (grown h s at g place room m f) s l k
-              (ap₂ ◌&&◌ (below_same k m h.made (r.3 k n) (λ b. omega (arith, r.0))) (grown-full h s at g place room m f k n))
-              (λ p b e. (p, omega arith, grown-entry h s at g place room m f p (λ q. omega arith)));
+              (ap₂ ◌&&◌ (below_same k m h.made (r.3 k n) (λ b. omega (arith, r.0))) (grown_full h s at g place room m f k n))
+              (λ p b e. (p, omega arith, grown_entry h s at g place room m f p (λ q. omega arith)));
         }))
         ).at_slot
 
 -- the slot t is full with the position p
 module _ (h : Heap) (s : Slab h) (t : Slot) (p : Pos) (b : t.0 < h.made) (full : state_at h t.0 ≡ Full p) where
-  gone-unused : (g : Heap) → full_at g t.0 ≡ full_at (vacated_of h t) t.0 → lookup g t.0 ≡ none
-  gone-unused g e =
+  gone_unused : (g : Heap) → full_at g t.0 ≡ full_at (vacated_of h t) t.0 → lookup g t.0 ≡ none
+  gone_unused g e =
       lookup_none g t.0
-      (ap (◌&&◌ (ltb t.0 g.made)) (e ∙ not_full_at (vacated_of h t) t.0 h.free (gone-state h s t p b full)) ∙ and-false (ltb t.0 g.made))
+      (ap (◌&&◌ (ltb t.0 g.made)) (e ∙ not_full_at (vacated_of h t) t.0 h.free (gone_state h s t p b full)) ∙ and-false (ltb t.0 g.made))
 
   -- after it nothing does
-  pub remove-gone : lookup (removed_of h t p).heap t.0 ≡ none
+  pub remove_gone : lookup (removed_of h t p).heap t.0 ≡ none
   unfolding full_at
-  remove-gone =
+  remove_gone =
       (remove_by_lem (Holds t.0 none) (swaps_hold t.0 none) h t p (here h s t p b full)
-      (λ l. record { slab = slab-last h s t p b full l; at_slot = gone-unused (with_len (vacated_of h t) (h.len - 1)) refl })
-      (λ n. record { slab = slab_fill h s t p b full n; at_slot = gone-unused (move_last h t p) ((fill_alike h s t p b full n).full t.0) })
+      (λ l. record { slab = slab_last h s t p b full l; at_slot = gone_unused (with_len (vacated_of h t) (h.len - 1)) refl })
+      (λ n. record { slab = slab_fill h s t p b full n; at_slot = gone_unused (move_last h t p) ((fill_alike h s t p b full n).full t.0) })
       ).at_slot
 
   -- every other slot keeps its entry
-  pub remove-other : (k : ℕ) → (k ≡ t.0 → ⊥) → lookup (removed_of h t p).heap k ≡ lookup h k
+  pub remove_other : (k : ℕ) → (k ≡ t.0 → ⊥) → lookup (removed_of h t p).heap k ≡ lookup h k
   unfolding full_at vacated_of put_at
-  remove-other k n =
+  remove_other k n =
       (remove_by_lem (Holds k (lookup h k)) (swaps_hold k (lookup h k)) h t p (here h s t p b full)
       (λ l. record {
-        slab = slab-last h s t p b full l;
+        slab = slab_last h s t p b full l;
         at_slot =
-            lookup_kept h (with_len (vacated_of h t) (h.len - 1)) s (slab-last h s t p b full l) k
-            (ap (◌&&◌ (ltb k h.made)) (gone-full h s t p b full k n))
+            lookup_kept h (with_len (vacated_of h t) (h.len - 1)) s (slab_last h s t p b full l) k
+            (ap (◌&&◌ (ltb k h.made)) (gone_full h s t p b full k n))
             (λ q c e. let d : q ≡ p.0 → ⊥ = λ x. n (sym e ∙ ap (slot_at h) x ∙ own h s t p b full) in
             (q, omega arith, refl));
       })
@@ -114,7 +114,7 @@ module _ (h : Heap) (s : Slab h) (t : Slot) (p : Pos) (b : t.0 < h.made) (full :
         slab = slab_fill h s t p b full f;
         at_slot =
             lookup_kept h (move_last h t p) s (slab_fill h s t p b full f) k
-            (ap (◌&&◌ (ltb k h.made)) ((fill_alike h s t p b full f).full k ∙ gone-full h s t p b full k n))
+            (ap (◌&&◌ (ltb k h.made)) ((fill_alike h s t p b full f).full k ∙ gone_full h s t p b full k n))
             (λ q c e. let d : q ≡ p.0 → ⊥ = λ x. n (sym e ∙ ap (slot_at h) x ∙ own h s t p b full) in
             by-ref (ref_eq q (h.len - 1))
             (λ x. (p.0, omega (arith, here h s t p b full), fill_entry h s t p b full f ∙ ap (entry_at h) (sym x)))
@@ -124,12 +124,12 @@ module _ (h : Heap) (s : Slab h) (t : Slot) (p : Pos) (b : t.0 < h.made) (full :
 
 module _ (h : Heap) (s : Slab h) (b : 0 < h.len) where
   -- after a pop nothing stands in the head's slot
-  pub pop-gone : lookup (pop_sound h).state (slot_at h 0) ≡ none
-  pop-gone = rw (pop_head h s b) (remove-gone h s (entry_at h 0).slot (record { 0 = 0 }) (s.forth 0 b).0 (s.forth 0 b).1)
+  pub pop_gone : lookup (pop_sound h).state (slot_at h 0) ≡ none
+  pop_gone = rw (pop_head h s b) (remove_gone h s (entry_at h 0).slot (record { 0 = 0 }) (s.forth 0 b).0 (s.forth 0 b).1)
 
   -- every other slot keeps its entry
-  pub pop-other : (k : ℕ) → (k ≡ slot_at h 0 → ⊥) → lookup (pop_sound h).state k ≡ lookup h k
-  pop-other k n = rw (pop_head h s b) (remove-other h s (entry_at h 0).slot (record { 0 = 0 }) (s.forth 0 b).0 (s.forth 0 b).1 k n)
+  pub pop_other : (k : ℕ) → (k ≡ slot_at h 0 → ⊥) → lookup (pop_sound h).state k ≡ lookup h k
+  pop_other k n = rw (pop_head h s b) (remove_other h s (entry_at h 0).slot (record { 0 = 0 }) (s.forth 0 b).0 (s.forth 0 b).1 k n)
 
 -- a slot in which nothing stands is refused
 pub remove_vacant : (h : Heap) (t : Slot) → lookup h t.0 ≡ none → remove_sound h t ≡ kept h (refuse VacantSlot)
@@ -148,9 +148,9 @@ pub remove_found : (h : Heap) → Slab h → (t : Slot) (e : Entry) → lookup h
     × ((k : ℕ) → (k ≡ t.0 → ⊥) → lookup (remove_sound h t).state k ≡ lookup h k)
 remove_found h s t e l =
     let q = lookup_state h t.0 e l in
-    rw (remove-full h s t q.0 q.1 q.2) (
+    rw (remove_full h s t q.0 q.1 q.2) (
       (removed_of h t q.0).swaps,
       ap (λ (x : Entry). accepted (some (x, (removed_of h t q.0).swaps))) q.3,
-      remove-gone h s t q.0 q.1 q.2,
-      remove-other h s t q.0 q.1 q.2,
+      remove_gone h s t q.0 q.1 q.2,
+      remove_other h s t q.0 q.1 q.2,
     )

@@ -20,7 +20,7 @@ use Rattle.heap.specs.Slab.{Slab}
 use Rattle.heap.proofs.Slots.Slab.{back, full_pos}
 use Rattle.heap.proofs.Slots.Spare.{Alike}
 use Rattle.heap.proofs.Walking.Laws.{len_swap}
-use Rattle.heap.proofs.Slots.Swap.{swap_alike, swap_left, swap_right, swap_other, slab-swap}
+use Rattle.heap.proofs.Slots.Swap.{swap_alike, swap_left, swap_right, swap_other, slab_swap}
 use Rattle.heap.proofs.Walking.Steps.{Swaps}
 
 -- in a slot that is not in use there is nothing
@@ -51,12 +51,12 @@ lookup_state h k e = go (ltb k h.made) (state_at h k) refl refl
 
 module _ (h : Heap) (s : Slab h) where
   -- the entry at a position stands in its slot
-  pub lookup-at : (p : ℕ) → p < h.len → lookup h (slot_at h p) ≡ some (entry_at h p)
-  lookup-at p b = lookup_full h (slot_at h p) (record { 0 = p }) (s.forth p b).0 (s.forth p b).1
+  pub lookup_at : (p : ℕ) → p < h.len → lookup h (slot_at h p) ≡ some (entry_at h p)
+  lookup_at p b = lookup_full h (slot_at h p) (record { 0 = p }) (s.forth p b).0 (s.forth p b).1
 
   -- the head stands in its slot
   pub lookup_head : 0 < h.len → lookup h (slot_at h 0) ≡ some (entry_at h 0)
-  lookup_head b = lookup-at 0 b
+  lookup_head b = lookup_at 0 b
 
   -- a slot in use is that of some position
   used_pos : (k : ℕ) → used_at h k ≡ true → (p : ℕ) × (p < h.len) × (slot_at h p ≡ k)
@@ -67,8 +67,8 @@ module _ (h : Heap) (s : Slab h) where
       (q.0.0, r.0, r.1)
 
   -- what stands in a slot stands at some position, and has that slot's number
-  pub lookup-some : (k : ℕ) (e : Entry) → lookup h k ≡ some e → (p : ℕ) × (p < h.len) × (entry_at h p ≡ e) × (e.slot.0 ≡ k)
-  lookup-some k e l =
+  pub lookup_some : (k : ℕ) (e : Entry) → lookup h k ≡ some e → (p : ℕ) × (p < h.len) × (entry_at h p ≡ e) × (e.slot.0 ≡ k)
+  lookup_some k e l =
       let q = lookup_state h k e l in
       let r = back h s k q.0 q.1 q.2 in
       (q.0.0, r.0, q.3, sym (ap (λ (x : Entry). x.slot.0) q.3) ∙ r.1)
@@ -85,7 +85,7 @@ lookup_kept h g s r k u c = go (used_at h k) refl
         let p = used_pos h s k e in
         let q = c p.0 p.1 p.2 in
         let o : slot_at g q.0 ≡ k = ap (λ (x : Entry). x.slot.0) q.2 ∙ p.2 in
-        ap (lookup g) (sym o) ∙ lookup-at g r q.0 q.1 ∙ ap some q.2 ∙ sym (lookup-at h s p.0 p.1) ∙ ap (lookup h) p.2
+        ap (lookup g) (sym o) ∙ lookup_at g r q.0 q.1 ∙ ap some q.2 ∙ sym (lookup_at h s p.0 p.1) ∙ ap (lookup h) p.2
 
 -- the same slots are in use
 alike_used : (h g : Heap) → Alike h g → (k : ℕ) → used_at g k ≡ used_at h k
@@ -95,7 +95,7 @@ alike_used h g a k = ap₂ (λ (m : ℕ) (f : Bool). ltb k m && f) a.made (a.ful
 lookup_swap : (h : Heap) → Slab h → (i j : ℕ) → i < h.len → j < h.len → (k : ℕ) → lookup (swap_at h i j) k ≡ lookup h k
 unfolding swap_at
 lookup_swap h s i j a b k =
-    lookup_kept h (swap_at h i j) s (slab-swap h s i j a b) k (alike_used h (swap_at h i j) (swap_alike h s i j a b) k)
+    lookup_kept h (swap_at h i j) s (slab_swap h s i j a b) k (alike_used h (swap_at h i j) (swap_alike h s i j a b) k)
     (λ p c e. by-ref (ref_eq p i)
     (λ q. (j, rw len_swap b, swap_right h s i j a b ∙ ap (entry_at h) (sym q)))
     (λ ni. by-ref (ref_eq p j)
@@ -110,6 +110,6 @@ pub record Holds (k : ℕ) (o : Option Entry) (g : Heap) : Type 0 where
 -- swaps keep it
 pub swaps_hold : (k : ℕ) (o : Option Entry) → Swaps (Holds k o)
 swaps_hold k o g i j r a b = record {
-  slab = slab-swap g r.slab i j a b;
+  slab = slab_swap g r.slab i j a b;
   at_slot = lookup_swap g r.slab i j a b k ∙ r.at_slot;
 }

@@ -12,7 +12,7 @@ use borrow.Author.Tests.{eq-eqb, ne_eqb}
 use Rattle.theory.specs.Chain.{chain_okb}
 use Rattle.theory.proofs.Tests.{by-ref, ref_eq}
 use Rattle.theory.proofs.Counting.{count_yes, count_same, count_off, count_none}
-use Rattle.theory.proofs.ChainTest.{none-ok}
+use Rattle.theory.proofs.ChainTest.{none_ok}
 use Rattle.theory.proofs.ChainChange.{pop_ok}
 use Rattle.heap.specs.Capacity.{cap}
 use Rattle.heap.specs.declared.Slot.{Slot}
@@ -23,9 +23,9 @@ use Rattle.heap.specs.Rules.{entry_at, state_at, put_at, with_slots, with_len, t
 use Rattle.heap.specs.Faults.{is_full, link_of, full_at, empty_at, next_at}
 use Rattle.heap.specs.Slab.{Slab}
 use Rattle.heap.proofs.Slots.Slab.{full_at_lem, not_full_at}
-use Rattle.heap.proofs.Slots.Stored.{entry-same, entry_other, state-same, state-other, put-here, put-there}
+use Rattle.heap.proofs.Slots.Stored.{entry_same, entry_other, state_same, state_other, put_here, put_there}
 use Rattle.heap.proofs.Slots.Spare.{Spare, empty_same, full_empty, link_empty}
-use Rattle.heap.proofs.Slots.FreeHead.{free-view, all-used, free-apart, taken_new, taken_old}
+use Rattle.heap.proofs.Slots.FreeHead.{free_view, all_used, free_apart, taken_new, taken_old}
 
 -- the new entry last, with m slots and f as the free head from then on
 module _ (h : Heap) (s : Slab h) (at g : ℕ) (place : Place) (room : h.len < cap) (m : ℕ) (f : Slot) where
@@ -37,105 +37,105 @@ module _ (h : Heap) (s : Slab h) (at g : ℕ) (place : Place) (room : h.len < ca
   wide = with_len (with_slots h m f) (h.len + 1)
 
   -- the new entry stands last
-  pub grown-last : entry_at grown h.len ≡ new_entry h at g place
+  pub grown_last : entry_at grown h.len ≡ new_entry h at g place
   unfolding added_of
-  grown-last = entry-same wide h.len (new_entry h at g place) (omega (arith, s.entries_long))
+  grown_last = entry_same wide h.len (new_entry h at g place) (omega (arith, s.entries_long))
 
   -- elsewhere what stood there
-  pub grown-entry : (p : ℕ) → (p ≡ h.len → ⊥) → entry_at grown p ≡ entry_at h p
+  pub grown_entry : (p : ℕ) → (p ≡ h.len → ⊥) → entry_at grown p ≡ entry_at h p
   unfolding added_of
-  grown-entry p n = entry_other wide h.len (new_entry h at g place) p n
+  grown_entry p n = entry_other wide h.len (new_entry h at g place) p n
 
   -- the free head is full with the last position
-  pub grown-slot : h.free.0 < cap → state_at grown h.free.0 ≡ Full (record { 0 = h.len })
+  pub grown_slot : h.free.0 < cap → state_at grown h.free.0 ≡ Full (record { 0 = h.len })
   unfolding added_of
-  grown-slot b = state-same wide h.len (new_entry h at g place) (omega (arith, s.slots_long))
+  grown_slot b = state_same wide h.len (new_entry h at g place) (omega (arith, s.slots_long))
 
   -- no other slot changes
-  grown-state : (k : ℕ) → (k ≡ h.free.0 → ⊥) → state_at grown k ≡ state_at h k
+  grown_state : (k : ℕ) → (k ≡ h.free.0 → ⊥) → state_at grown k ≡ state_at h k
   unfolding added_of
-  grown-state k n = state-other wide h.len (new_entry h at g place) k n
+  grown_state k n = state_other wide h.len (new_entry h at g place) k n
 
   -- no other slot becomes full, or empty
-  pub grown-full : (k : ℕ) → (k ≡ h.free.0 → ⊥) → full_at grown k ≡ full_at h k
+  pub grown_full : (k : ℕ) → (k ≡ h.free.0 → ⊥) → full_at grown k ≡ full_at h k
   unfolding full_at
-  grown-full k n = ap is_full (grown-state k n)
+  grown_full k n = ap is_full (grown_state k n)
 
-  slab-grown : m ≤ cap → h.made ≤ m → h.free.0 < m → Spare grown (h.len + 1) → Slab grown
+  slab_grown : m ≤ cap → h.made ≤ m → h.free.0 < m → Spare grown (h.len + 1) → Slab grown
   unfolding added_of put_at
-  slab-grown a b c r = record {
+  slab_grown a b c r = record {
     entries_long = simp length-set s.entries_long;
     slots_long = simp length-set s.slots_long;
     len_in = omega arith;
     made_in = a;
     counted = r.counted;
     forth = λ p d. by-ref (ref_eq p h.len)
-        (λ q. rw q (put-here wide h.len (new_entry h at g place) (omega (arith, s.entries_long)) (omega (arith, s.slots_long)) c))
+        (λ q. rw q (put_here wide h.len (new_entry h at g place) (omega (arith, s.entries_long)) (omega (arith, s.slots_long)) c))
         (λ q. let l : p < h.len = omega arith in
-        put-there wide h.len (new_entry h at g place) p q (free-apart h s p l) (omega (arith, (s.forth p l).0), (s.forth p l).1));
+        put_there wide h.len (new_entry h at g place) p q (free_apart h s p l) (omega (arith, (s.forth p l).0), (s.forth p l).1));
     chained = r.chained;
   }
 
 module _ (h : Heap) (s : Slab h) (at g : ℕ) (place : Place) (room : h.len < cap) where
   -- a slot is made: there was no empty one, and there is none
-  spare-new : h.free.0 ≡ h.made → ((i : ℕ) → i < h.made → full_at h i ≡ true)
+  spare_new : h.free.0 ≡ h.made → ((i : ℕ) → i < h.made → full_at h i ≡ true)
       → Spare (grown h s at g place room (h.made + 1) (record { 0 = h.made + 1 })) (h.len + 1)
   unfolding added_of put_at
-  spare-new q a =
+  spare_new q a =
       let u = grown h s at g place room (h.made + 1) (record { 0 = h.made + 1 }) in
-      let l : h.made ≡ h.len = all-used h s a in
+      let l : h.made ≡ h.len = all_used h s a in
       let t : full_at u h.made ≡ true =
-      ap (full_at u) (sym q) ∙ full_at_lem u h.free.0 _ (grown-slot h s at g place room (h.made + 1) (record { 0 = h.made + 1 }) (omega arith)) in
+      ap (full_at u) (sym q) ∙ full_at_lem u h.free.0 _ (grown_slot h s at g place room (h.made + 1) (record { 0 = h.made + 1 }) (omega arith)) in
       let o : (i : ℕ) → i < h.made → full_at u i ≡ full_at h i =
-      λ i b. grown-full h s at g place room (h.made + 1) (record { 0 = h.made + 1 }) i (λ e. omega (arith, q, e)) in
+      λ i b. grown_full h s at g place room (h.made + 1) (record { 0 = h.made + 1 }) i (λ e. omega (arith, q, e)) in
       record {
         counted = count_yes (full_at u) h.made t ∙ ap (λ (n : ℕ). n + 1) (count_same (full_at u) (full_at h) h.made o ∙ s.counted);
         chained =
             rw (eq-eqb (h.made + 1) (h.made + 1) refl)
-            (none-ok (empty_at u) (next_at u) (h.made + 1)
+            (none_ok (empty_at u) (next_at u) (h.made + 1)
             (count_none (empty_at u) (h.made + 1) (λ i b. full_empty u i
             (by-ref (ref_eq i h.made) (λ e. ap (full_at u) e ∙ t) (λ e. let c : i < h.made = omega arith in o i c ∙ a i c))))).0;
       }
 
   -- the links of the other slots stay
-  next-other : (n : Slot) (k : ℕ) → (k ≡ h.free.0 → ⊥) → next_at h k ≡ next_at (grown h s at g place room h.made n) k
+  next_other : (n : Slot) (k : ℕ) → (k ≡ h.free.0 → ⊥) → next_at h k ≡ next_at (grown h s at g place room h.made n) k
   unfolding next_at added_of put_at
-  next-other n k q = ap (link_of h.made) (sym (grown-state h s at g place room h.made n k q))
+  next_other n k q = ap (link_of h.made) (sym (grown_state h s at g place room h.made n k q))
 
   -- the front of the chain is taken off
-  spare-old : (n : Slot) → h.free.0 < h.made → state_at h h.free.0 ≡ Empty n
+  spare_old : (n : Slot) → h.free.0 < h.made → state_at h h.free.0 ≡ Empty n
       → Spare (grown h s at g place room h.made n) (h.len + 1)
   unfolding added_of put_at
-  spare-old n b e =
+  spare_old n b e =
       let u = grown h s at g place room h.made n in
-      let t : full_at u h.free.0 ≡ true = full_at_lem u h.free.0 _ (grown-slot h s at g place room h.made n (omega (arith, s.made_in))) in
-      let o : (k : ℕ) → (k ≡ h.free.0 → ⊥) → full_at h k ≡ full_at u k = λ k q. sym (grown-full h s at g place room h.made n k q) in
+      let t : full_at u h.free.0 ≡ true = full_at_lem u h.free.0 _ (grown_slot h s at g place room h.made n (omega (arith, s.made_in))) in
+      let o : (k : ℕ) → (k ≡ h.free.0 → ⊥) → full_at h k ≡ full_at u k = λ k q. sym (grown_full h s at g place room h.made n k q) in
       record {
         counted = count_off (full_at h) (full_at u) h.made h.free.0 o (not_full_at h h.free.0 n e) t b ∙ omega (arith, s.counted);
         chained =
             subst (λ (x : Option ℕ). chain_okb (empty_at u) (next_at u) h.made x ≡ true) (link_empty h h.free.0 n e)
             (pop_ok (empty_at h) (empty_at u) (next_at h) (next_at u) h.made h.free.0
-            (λ k q. empty_same u h k refl (o k q)) (next-other n)
+            (λ k q. empty_same u h k refl (o k q)) (next_other n)
             b (full_empty u h.free.0 t) (rw (ne_eqb h.free.0 h.made (λ q. omega arith)) at s.chained)).0;
       }
 
 module _ (h : Heap) (s : Slab h) (at g : ℕ) (place : Place) (room : h.len < cap) where
   -- what holds of the grown heap, either way, holds once the free head is taken and the entry added
-  pub taken-by : (P : Heap → Type 0)
+  pub taken_by_lem : (P : Heap → Type 0)
       → ((m : ℕ) (f : Slot) → (h.made ≤ m) × (h.free.0 < m) × (m ≤ cap) × ((k : ℕ) → (k ≡ h.free.0 → ⊥) → k < m → k < h.made)
       → Slab (grown h s at g place room m f) → P (grown h s at g place room m f))
       → P (added_of (taken_of h) (new_entry h at g place))
-  taken-by P p =
+  taken_by_lem P p =
       ⊎_elim
-      (λ w. let l : h.made ≡ h.len = all-used h s w.1 in
+      (λ w. let l : h.made ≡ h.len = all_used h s w.1 in
       rw (taken_new h w.0)
       (p (h.made + 1) (record { 0 = h.made + 1 })
       (omega arith, omega (arith, w.0), omega arith, λ k q b. omega (arith, w.0))
-      (slab-grown h s at g place room (h.made + 1) (record { 0 = h.made + 1 }) (omega arith) (omega arith) (omega (arith, w.0))
-      (spare-new h s at g place room w.0 w.1))))
+      (slab_grown h s at g place room (h.made + 1) (record { 0 = h.made + 1 }) (omega arith) (omega arith) (omega (arith, w.0))
+      (spare_new h s at g place room w.0 w.1))))
       (λ w. rw (taken_old h w.0 w.1 w.2)
       (p h.made w.0
       (omega arith, w.1, s.made_in, λ k q b. b)
-      (slab-grown h s at g place room h.made w.0 s.made_in (omega arith) w.1
-      (spare-old h s at g place room w.0 w.1 w.2))))
-      (free-view h s)
+      (slab_grown h s at g place room h.made w.0 s.made_in (omega arith) w.1
+      (spare_old h s at g place room w.0 w.1 w.2))))
+      (free_view h s)

@@ -23,8 +23,8 @@ use Rattle.heap.specs.Faults.{is_full, link_of, full_at, empty_at, next_at}
 use Rattle.heap.specs.Sound.{Placed}
 use Rattle.heap.specs.Slab.{Slab}
 use Rattle.heap.proofs.Slots.Slab.{back, slot_apart, not_full_at, full_at_lem}
-use Rattle.heap.proofs.Slots.Stored.{entry-same, entry_other, put-here, put-there}
-use Rattle.heap.proofs.Slots.Spare.{Spare, Alike, alike_both, alike_spare, len_alike, put-alike, empty_same, empty_tells, full_empty, link_empty}
+use Rattle.heap.proofs.Slots.Stored.{entry_same, entry_other, put_here, put_there}
+use Rattle.heap.proofs.Slots.Spare.{Spare, Alike, alike_both, alike_spare, len_alike, put_alike, empty_same, empty_tells, full_empty, link_empty}
 use Rattle.heap.proofs.Walking.Steps.{move_last}
 
 -- the slot t is full with the position p
@@ -45,58 +45,58 @@ module _ (h : Heap) (s : Slab h) (t : Slot) (p : Pos) (b : t.0 < h.made) (full :
   gone = vacated_of h t
 
   -- the slot is empty and names the old free head
-  pub gone-state : state_at gone t.0 ≡ Empty h.free
+  pub gone_state : state_at gone t.0 ≡ Empty h.free
   unfolding vacated_of
-  gone-state = ap (λ (y : SlabSlot). y.state) (get_or-set_same h.slots t.0 _ no_slot (omega (arith, s.slots_long, s.made_in)))
+  gone_state = ap (λ (y : SlabSlot). y.state) (get_or-set_same h.slots t.0 _ no_slot (omega (arith, s.slots_long, s.made_in)))
 
   -- no other slot changes
-  gone-stays : (k : ℕ) → (k ≡ t.0 → ⊥) → state_at gone k ≡ state_at h k
+  gone_stays : (k : ℕ) → (k ≡ t.0 → ⊥) → state_at gone k ≡ state_at h k
   unfolding vacated_of
-  gone-stays k f = ap (λ (y : SlabSlot). y.state) (get_or-set_other h.slots t.0 k _ no_slot f)
+  gone_stays k f = ap (λ (y : SlabSlot). y.state) (get_or-set_other h.slots t.0 k _ no_slot f)
 
   -- no other slot becomes full, or empty
-  pub gone-full : (k : ℕ) → (k ≡ t.0 → ⊥) → full_at gone k ≡ full_at h k
+  pub gone_full : (k : ℕ) → (k ≡ t.0 → ⊥) → full_at gone k ≡ full_at h k
   unfolding full_at
-  gone-full k f = ap is_full (gone-stays k f)
+  gone_full k f = ap is_full (gone_stays k f)
 
-  gone-next : (k : ℕ) → (k ≡ t.0 → ⊥) → next_at h k ≡ next_at gone k
+  gone_next : (k : ℕ) → (k ≡ t.0 → ⊥) → next_at h k ≡ next_at gone k
   unfolding next_at vacated_of
-  gone-next k f = ap (link_of h.made) (sym (gone-stays k f))
+  gone_next k f = ap (link_of h.made) (sym (gone_stays k f))
 
   -- an entry that stays is named as before
-  gone-named : (q : ℕ) → q < h.len → (q ≡ p.0 → ⊥) → Placed gone q
+  gone_named : (q : ℕ) → q < h.len → (q ≡ p.0 → ⊥) → Placed gone q
   unfolding vacated_of
-  gone-named q c f = ((s.forth q c).0, gone-stays (slot_at h q) (not_own q c f) ∙ (s.forth q c).1)
+  gone_named q c f = ((s.forth q c).0, gone_stays (slot_at h q) (not_own q c f) ∙ (s.forth q c).1)
 
   -- one slot less is full, and the free chain has it in front
-  gone-spare : Spare gone (h.len - 1)
+  gone_spare : Spare gone (h.len - 1)
   unfolding vacated_of
-  gone-spare =
-      let off : full_at gone t.0 ≡ false = not_full_at gone t.0 h.free gone-state in
+  gone_spare =
+      let off : full_at gone t.0 ≡ false = not_full_at gone t.0 h.free gone_state in
       let on : full_at h t.0 ≡ true = full_at_lem h t.0 p full in
-      let n : count (full_at h) h.made ≡ suc (count (full_at gone) h.made) = count_off (full_at gone) (full_at h) h.made t.0 gone-full off on b in
+      let n : count (full_at h) h.made ≡ suc (count (full_at gone) h.made) = count_off (full_at gone) (full_at h) h.made t.0 gone_full off on b in
       record {
         counted = omega (arith, s.counted);
         chained =
             rw (ne_eqb t.0 h.made (λ q. omega arith))
             (push_ok (empty_at h) (empty_at gone) (next_at h) (next_at gone) h.made t.0
-            (λ k f. empty_same gone h k refl (sym (gone-full k f))) gone-next
+            (λ k f. empty_same gone h k refl (sym (gone_full k f))) gone_next
             (unless h.made h.free.0) b (full_empty h t.0 on) (empty_tells gone t.0 b off)
-            (link_empty gone t.0 h.free gone-state) s.chained).0;
+            (link_empty gone t.0 h.free gone_state) s.chained).0;
       }
 
   -- the hole was the last position
-  pub slab-last : p.0 ≡ h.len - 1 → Slab (with_len gone (h.len - 1))
+  pub slab_last : p.0 ≡ h.len - 1 → Slab (with_len gone (h.len - 1))
   unfolding vacated_of
-  slab-last l =
-      let r = alike_spare gone (with_len gone (h.len - 1)) (h.len - 1) (len_alike gone (h.len - 1)) gone-spare in
+  slab_last l =
+      let r = alike_spare gone (with_len gone (h.len - 1)) (h.len - 1) (len_alike gone (h.len - 1)) gone_spare in
       record {
         entries_long = s.entries_long;
         slots_long = simp length-set s.slots_long;
         len_in = omega (arith, s.len_in);
         made_in = s.made_in;
         counted = r.counted;
-        forth = λ q c. gone-named q (omega arith) (λ e. omega arith);
+        forth = λ q c. gone_named q (omega arith) (λ e. omega arith);
         chained = r.chained;
       }
 
@@ -111,7 +111,7 @@ module _ (h : Heap) (s : Slab h) (t : Slot) (p : Pos) (b : t.0 < h.made) (full :
     -- the last entry stands in the hole
     pub fill_entry : entry_at (move_last h t p) p.0 ≡ entry_at h (h.len - 1)
     unfolding vacated_of
-    fill_entry = entry-same short p.0 (entry_at h (h.len - 1)) (omega (arith, s.entries_long, s.len_in, here))
+    fill_entry = entry_same short p.0 (entry_at h (h.len - 1)) (omega (arith, s.entries_long, s.len_in, here))
 
     -- elsewhere what stood there
     pub fill_other : (q : ℕ) → (q ≡ p.0 → ⊥) → entry_at (move_last h t p) q ≡ entry_at h q
@@ -127,26 +127,26 @@ module _ (h : Heap) (s : Slab h) (t : Slot) (p : Pos) (b : t.0 < h.made) (full :
     unfolding vacated_of
     fill_alike =
         alike_both gone short (move_last h t p) (len_alike gone (h.len - 1))
-        (put-alike short p.0 (entry_at h (h.len - 1)) slot_in_range
-        (full_at_lem short (slot_at h (h.len - 1)) _ gone-last.1))
+        (put_alike short p.0 (entry_at h (h.len - 1)) slot_in_range
+        (full_at_lem short (slot_at h (h.len - 1)) _ gone_last.1))
       where
-        gone-last : Placed gone (h.len - 1)
-        gone-last = gone-named (h.len - 1) last_in (λ e. f (sym e))
+        gone_last : Placed gone (h.len - 1)
+        gone_last = gone_named (h.len - 1) last_in (λ e. f (sym e))
 
     fill_forth : (q : ℕ) → q < h.len - 1 → Placed (move_last h t p) q
     unfolding vacated_of put_at
     fill_forth q c =
         by-ref (ref_eq q p.0)
         (λ e. rw e
-        (put-here short p.0 (entry_at h (h.len - 1)) (omega (arith, s.entries_long, s.len_in, here)) slot_in_range (s.forth (h.len - 1) last_in).0))
+        (put_here short p.0 (entry_at h (h.len - 1)) (omega (arith, s.entries_long, s.len_in, here)) slot_in_range (s.forth (h.len - 1) last_in).0))
         (λ n. let d : q < h.len = omega arith in
-        put-there short p.0 (entry_at h (h.len - 1)) q n (slot_apart h s q (h.len - 1) d last_in (λ e. omega arith)) (gone-named q d n))
+        put_there short p.0 (entry_at h (h.len - 1)) q n (slot_apart h s q (h.len - 1) d last_in (λ e. omega arith)) (gone_named q d n))
 
     -- the slab is kept
     pub slab_fill : Slab (move_last h t p)
     unfolding put_at vacated_of
     slab_fill =
-        let r = alike_spare gone (move_last h t p) (h.len - 1) fill_alike gone-spare in
+        let r = alike_spare gone (move_last h t p) (h.len - 1) fill_alike gone_spare in
         record {
           entries_long = simp length-set s.entries_long;
           slots_long = simp length-set s.slots_long;

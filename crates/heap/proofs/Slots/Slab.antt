@@ -95,16 +95,16 @@ module _ (h : Heap) (s : Slab h) where
   pub slot_apart : (p q : ℕ) → p < h.len → q < h.len → (p ≡ q → ⊥) → slot_at h p ≡ slot_at h q → ⊥
   slot_apart p q a b f e = f (ap (λ (x : Pos). x.0) (full_same (s.forth p a).1 (ap (state_at h) e ∙ (s.forth q b).1)))
 
-  slots-distinct : (n : ℕ) → n ≤ h.len → Distinct (slots_below h n)
+  slots_distinct : (n : ℕ) → n ≤ h.len → Distinct (slots_below h n)
   unfolding slots_below
-  slots-distinct zero b = tt
-  slots-distinct (suc n) b = (
+  slots_distinct zero b = tt
+  slots_distinct (suc n) b = (
     λ m. let r = slots_mem h n (slot_at h n) m in slot_apart r.0 n (omega arith) (omega arith) (λ e. omega arith) r.2,
-    slots-distinct n (omega arith),
+    slots_distinct n (omega arith),
   )
 
-  slots-full : (x : ℕ) → Mem x (slots_below h h.len) → (x < h.made) × (full_at h x ≡ true)
-  slots-full x m =
+  slots_full : (x : ℕ) → Mem x (slots_below h h.len) → (x < h.made) × (full_at h x ≡ true)
+  slots_full x m =
       let r = slots_mem h h.len x m in
       let f = s.forth r.0 r.1 in
       subst (λ (k : ℕ). (k < h.made) × (full_at h k ≡ true)) r.2 (f.0, full_at_lem h (slot_at h r.0) _ f.1)
@@ -112,7 +112,7 @@ module _ (h : Heap) (s : Slab h) where
   -- a full slot is the slot of the entry at the position that it names
   pub back : (t : ℕ) (p : Pos) → t < h.made → state_at h t ≡ Full p → (p.0 < h.len) × (slot_at h p.0 ≡ t)
   back t p b e =
-      let m = pigeonhole (slots_below h h.len) (full_at h) h.made (slots-distinct h.len (omega arith)) slots-full
+      let m = pigeonhole (slots_below h h.len) (full_at h) h.made (slots_distinct h.len (omega arith)) slots_full
       (slots_length h h.len ∙ sym s.counted) t b (full_at_lem h t p e) in
       let r = slots_mem h h.len t m in
       let q : r.0 ≡ p.0 = ap (λ (x : Pos). x.0) (full_same (ap (state_at h) (sym r.2) ∙ (s.forth r.0 r.1).1) e) in

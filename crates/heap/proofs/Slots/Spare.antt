@@ -20,7 +20,7 @@ use Rattle.heap.specs.declared.Heap.{Heap}
 use Rattle.heap.specs.Rules.{state_at, put_at, with_len}
 use Rattle.heap.specs.Faults.{is_full, link_of, full_at, empty_at, next_at}
 use Rattle.heap.proofs.Slots.Slab.{full_pos, full_at_lem}
-use Rattle.heap.proofs.Slots.Stored.{slot_of, state-same, state-other}
+use Rattle.heap.proofs.Slots.Stored.{slot_of, state_same, state_other}
 
 -- n slots are full, and the free chain visits the others
 pub record Spare (h : Heap) (n : ℕ) : Type 0 where
@@ -94,17 +94,17 @@ module _ (h : Heap) (i : ℕ) (e : Entry) (b : slot_of e < length h.slots) (f : 
   unfolding full_at
   put_full k =
       by-ref (ref_eq k (slot_of e))
-      (λ q. ap (full_at (put_at h i e)) q ∙ full_at_lem (put_at h i e) (slot_of e) _ (state-same h i e b) ∙ sym f ∙ ap (full_at h) (sym q))
-      (λ q. ap is_full (state-other h i e k q))
+      (λ q. ap (full_at (put_at h i e)) q ∙ full_at_lem (put_at h i e) (slot_of e) _ (state_same h i e b) ∙ sym f ∙ ap (full_at h) (sym q))
+      (λ q. ap is_full (state_other h i e k q))
 
   put_next : (k : ℕ) → next_at (put_at h i e) k ≡ next_at h k
   unfolding next_at put_at
   put_next k =
       by-ref (ref_eq k (slot_of e))
       (λ q. full_next (put_at h i e) k (put_full k ∙ ap (full_at h) q ∙ f) ∙ sym (full_next h k (ap (full_at h) q ∙ f)))
-      (λ q. ap (link_of h.made) (state-other h i e k q))
+      (λ q. ap (link_of h.made) (state_other h i e k q))
 
   -- an entry whose slot is full already is put anywhere
-  pub put-alike : Alike h (put_at h i e)
+  pub put_alike : Alike h (put_at h i e)
   unfolding put_at
-  put-alike = record { made = refl; free = refl; full = put_full; next = put_next }
+  put_alike = record { made = refl; free = refl; full = put_full; next = put_next }

@@ -21,9 +21,9 @@ named_by h p q e b f = (rw e b, ap (state_at h) e ∙ f)
 
 module _ (h : Heap) (i : ℕ) (e : Entry) where
   -- the entry stands there
-  pub entry-same : i < length h.entries → entry_at (put_at h i e) i ≡ e
+  pub entry_same : i < length h.entries → entry_at (put_at h i e) i ≡ e
   unfolding put_at
-  entry-same b = rw get_or-set_same
+  entry_same b = rw get_or-set_same
 
   -- at other positions nothing changes
   pub entry_other : (j : ℕ) → (j ≡ i → ⊥) → entry_at (put_at h i e) j ≡ entry_at h j
@@ -31,31 +31,31 @@ module _ (h : Heap) (i : ℕ) (e : Entry) where
   entry_other j f = rw get_or-set_other
 
   -- the entry's slot is full with the position
-  pub state-same : slot_of e < length h.slots → state_at (put_at h i e) (slot_of e) ≡ Full (record { 0 = i })
+  pub state_same : slot_of e < length h.slots → state_at (put_at h i e) (slot_of e) ≡ Full (record { 0 = i })
   unfolding put_at
-  state-same b = ap (λ (y : SlabSlot). y.state) (get_or-set_same h.slots (slot_of e) _ no_slot b)
+  state_same b = ap (λ (y : SlabSlot). y.state) (get_or-set_same h.slots (slot_of e) _ no_slot b)
 
   -- no other slot changes
-  pub state-other : (s : ℕ) → (s ≡ slot_of e → ⊥) → state_at (put_at h i e) s ≡ state_at h s
+  pub state_other : (s : ℕ) → (s ≡ slot_of e → ⊥) → state_at (put_at h i e) s ≡ state_at h s
   unfolding put_at
-  state-other s f = ap (λ (y : SlabSlot). y.state) (get_or-set_other h.slots (slot_of e) s _ no_slot f)
+  state_other s f = ap (λ (y : SlabSlot). y.state) (get_or-set_other h.slots (slot_of e) s _ no_slot f)
 
   -- the array keeps its length
-  pub long-entries : length (put_at h i e).entries ≡ length h.entries
+  pub long_entries : length (put_at h i e).entries ≡ length h.entries
   unfolding put_at
-  long-entries = simp length-set
+  long_entries = simp length-set
 
   -- and so does the slab
-  pub long-slots : length (put_at h i e).slots ≡ length h.slots
+  pub long_slots : length (put_at h i e).slots ≡ length h.slots
   unfolding put_at
-  long-slots = simp length-set
+  long_slots = simp length-set
 
   -- the position and the entry's slot name each other
-  pub put-here : i < length h.entries → slot_of e < length h.slots → slot_of e < h.made → Placed (put_at h i e) i
+  pub put_here : i < length h.entries → slot_of e < length h.slots → slot_of e < h.made → Placed (put_at h i e) i
   unfolding put_at
-  put-here a b c = named_by (put_at h i e) i (slot_of e) (ap slot_of (entry-same a)) c (state-same b)
+  put_here a b c = named_by (put_at h i e) i (slot_of e) (ap slot_of (entry_same a)) c (state_same b)
 
   -- another position, with another slot, is named as before
-  pub put-there : (j : ℕ) → (j ≡ i → ⊥) → (slot_at h j ≡ slot_of e → ⊥) → Placed h j → Placed (put_at h i e) j
+  pub put_there : (j : ℕ) → (j ≡ i → ⊥) → (slot_at h j ≡ slot_of e → ⊥) → Placed h j → Placed (put_at h i e) j
   unfolding put_at
-  put-there j f g n = named_by (put_at h i e) j (slot_at h j) (ap slot_of (entry_other j f)) n.0 (state-other (slot_at h j) g ∙ n.1)
+  put_there j f g n = named_by (put_at h i e) j (slot_at h j) (ap slot_of (entry_other j f)) n.0 (state_other (slot_at h j) g ∙ n.1)

@@ -32,9 +32,9 @@ module _ (P : Entry → Type 0) where
     pub room : h.len ≤ length h.entries
 
   -- two entries change places
-  swaps-roomy : Swaps Roomy
+  swaps_roomy : Swaps Roomy
   unfolding swap_at put_at
-  swaps-roomy g i j r a b =
+  swaps_roomy g i j r a b =
       let c : i < length g.entries = omega (arith, r.room) in
       let l = set g.entries i (entry_at g j) in
       let d : j < length l = omega (arith, r.room, length-set g.entries i (entry_at g j)) in
@@ -50,7 +50,7 @@ module _ (P : Entry → Type 0) where
     unfolding added_of taken_of put_at
     pushed_each at g place more new =
         let e = new_entry h at g place in
-        (push_by Roomy swaps-roomy h at g place
+        (push_by Roomy swaps_roomy h at g place
         (record {
           each =
               set_all no_entry h.entries h.len e more (λ (k : ℕ) (x : Entry). k < (added_of (taken_of h) e).len → P x) (λ _. new)
@@ -63,7 +63,7 @@ module _ (P : Entry → Type 0) where
     unfolding vacated_of put_at
     removed_each t p b fits =
         let last = entry_at h (h.len - 1) in
-        (remove_by_lem Roomy swaps-roomy h t p b
+        (remove_by_lem Roomy swaps_roomy h t p b
         (λ _. record { each = λ k c. all k (omega arith); room = omega arith })
         (λ _. record {
           each =

@@ -11,7 +11,7 @@ use borrow.Author.Tests.{ltb-true, lt-ltb, eqb-true}
 use Rattle.theory.specs.Counting.{tally, count}
 use Rattle.theory.specs.Chain.{chain_okb}
 use Rattle.theory.proofs.Tests.{and_left}
-use Rattle.theory.proofs.ChainTest.{ok-head, ok-none}
+use Rattle.theory.proofs.ChainTest.{ok_head, ok_none}
 use Rattle.heap.specs.Capacity.{cap}
 use Rattle.heap.specs.declared.Pos.{Pos}
 use Rattle.heap.specs.declared.SlotState.TheVariants.{Full}
@@ -58,9 +58,9 @@ free_in h s l = go (eqb h.free.0 h.made) refl s.chained
     go : (b : Bool) → eqb h.free.0 h.made ≡ b
         → chain_okb (empty_at h) (next_at h) h.made (cond b none (some h.free.0)) ≡ true → h.free.0 < cap
     go true e w =
-        omega (arith, eqb-true h.free.0 h.made e, ok-none (empty_at h) (next_at h) h.made w, empty_full h, s.counted, l)
+        omega (arith, eqb-true h.free.0 h.made e, ok_none (empty_at h) (next_at h) h.made w, empty_full h, s.counted, l)
     go false e w =
-        omega (arith, empty_made h h.free.0 (ok-head (empty_at h) (next_at h) h.made h.free.0 w), s.made_in)
+        omega (arith, empty_made h h.free.0 (ok_head (empty_at h) (next_at h) h.made h.free.0 w), s.made_in)
 
 -- a full slot names a position of the heap, whose entry names the slot: there are only as many full slots as entries
 pub full_back : (h : Heap) → Sound h → (s : ℕ) (p : Pos) → s < h.made → state_at h s ≡ Full p → (p.0 < h.len) × (slot_at h p.0 ≡ s)

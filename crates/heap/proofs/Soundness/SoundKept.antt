@@ -16,33 +16,33 @@ use Rattle.heap.specs.Sound.{Sound}
 use Rattle.heap.specs.Calls.{Off, remove_by, push_sound, remove_sound, pop_sound}
 use Rattle.heap.proofs.Soundness.SoundFacts.{full_back}
 use Rattle.heap.proofs.Slots.Slab.{sound_slab, slab_sound}
-use Rattle.heap.proofs.Slots.Kept.{push-slab, remove-slab}
+use Rattle.heap.proofs.Slots.Kept.{push_slab, remove_slab}
 use Rattle.heap.proofs.AsList.Ordered.{push_keeps, remove_keeps}
 
 module _ (h : Heap) (s : Sound h) where
   -- after a push the heap is sound
-  pub push-sound : (at g : ℕ) (place : Place) → Sound (push_sound h at g place).state
+  pub push_sound_lem : (at g : ℕ) (place : Place) → Sound (push_sound h at g place).state
   unfolding push_sound
-  push-sound at g place =
+  push_sound_lem at g place =
       cond-ref (λ (o : Outcome Heap (Slot × ℕ)). Sound o.state) (ref_lt h.len cap)
-      (λ room. slab_sound _ (push-slab h at g place (sound_slab h s) room) (push_keeps h at g place (omega arith) s.ordered))
+      (λ room. slab_sound _ (push_slab h at g place (sound_slab h s) room) (push_keeps h at g place (omega arith) s.ordered))
       (λ full. s)
 
-  removed-sound : (t : Slot) → t.0 < h.made → (x : SlotState) → state_at h t.0 ≡ x → Sound (remove_by h t x).state
-  removed-sound t b (Full p) e =
-      slab_sound _ (remove-slab h (sound_slab h s) t p b e) (remove_keeps h t p (omega arith) (full_back h s t.0 p b e).0 s.ordered)
-  removed-sound t b (Empty n) e = s
+  removed_sound : (t : Slot) → t.0 < h.made → (x : SlotState) → state_at h t.0 ≡ x → Sound (remove_by h t x).state
+  removed_sound t b (Full p) e =
+      slab_sound _ (remove_slab h (sound_slab h s) t p b e) (remove_keeps h t p (omega arith) (full_back h s t.0 p b e).0 s.ordered)
+  removed_sound t b (Empty n) e = s
 
   -- after a removal, of whatever slot
-  pub remove-sound : (t : Slot) → Sound (remove_sound h t).state
+  pub remove_sound_lem : (t : Slot) → Sound (remove_sound h t).state
   unfolding remove_sound
-  remove-sound t =
+  remove_sound_lem t =
       cond-ref (λ (o : Outcome Heap Off). Sound o.state) (ref_lt t.0 h.made)
-      (λ b. removed-sound t b (state_at h t.0) refl)
+      (λ b. removed_sound t b (state_at h t.0) refl)
       (λ n. s)
 
   -- after a pop
-  pub pop-sound : Sound (pop_sound h).state
+  pub pop_sound_lem : Sound (pop_sound h).state
   unfolding pop_sound
-  pop-sound =
-      cond-ref (λ (o : Outcome Heap Off). Sound o.state) (ref_eq h.len 0) (λ e. s) (λ n. remove-sound (entry_at h 0).slot)
+  pop_sound_lem =
+      cond-ref (λ (o : Outcome Heap Off). Sound o.state) (ref_eq h.len 0) (λ e. s) (λ n. remove_sound_lem (entry_at h 0).slot)

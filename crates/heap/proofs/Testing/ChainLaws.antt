@@ -15,7 +15,7 @@ use borrow.Author.Tests.{eq-eqb, ne_eqb}
 use Rattle.theory.specs.Counting.{count}
 use Rattle.theory.specs.Chain.{unless}
 use Rattle.theory.specs.WrongStep.{wrong_step}
-use Rattle.theory.proofs.WrongTurns.{Walking, walk-starts, walk_short, walk-stranger, walk-again, walk-goes, walk_ends, walk-long}
+use Rattle.theory.proofs.WrongTurns.{Walking, walk_starts, walk_short, walk_stranger, walk_again, walk_goes, walk_ends, walk_long}
 use Rattle.refusals.specs.declared.fault.Fault.TheVariants.{FreeChain}
 use Rattle.refusals.specs.Faults.{fault_by}
 use Rattle.heap.specs.Capacity.{cap}
@@ -28,7 +28,7 @@ use Rattle.heap.specs.Faults.{link_of, empty_at, next_at, chain_fault}
 use Rattle.heap.specs.Sound.{Counted}
 use Rattle.heap.proofs.Slots.Slab.{full_at_lem}
 use Rattle.heap.proofs.Soundness.SoundFacts.{empty_not, empty_full, empty_made}
-use Rattle.heap.proofs.Testing.FaultLaws.{full-no, empty-past}
+use Rattle.heap.proofs.Testing.FaultLaws.{full_no, empty_past}
 
 -- the chain as a walk along it finds it: n slots are empty, it has met k, stands at a slot and has marked those that it met
 pub record OnChain (h : Heap) (n k at : ℕ) (met : List Bool) : Type 0 where
@@ -38,11 +38,11 @@ pub record OnChain (h : Heap) (n k at : ℕ) (met : List Bool) : Type 0 where
 
 module _ (h : Heap) where
   -- the walk begins with as many slots to meet as there are slots less entries, and none marked
-  pub chain-starts : Counted h → OnChain h (h.made - h.len) 0 h.free.0 (replicate cap false)
-  chain-starts k = record {
+  pub chain_starts : Counted h → OnChain h (h.made - h.len) 0 h.free.0 (replicate cap false)
+  chain_starts k = record {
     many = omega (arith, empty_full h, k.counted);
     room = length-replicate cap false;
-    walk = walk-starts (empty_at h) (next_at h) h.made (unless h.made h.free.0) (λ x b. get_or-replicate cap x false false (omega (arith, k.made_in)));
+    walk = walk_starts (empty_at h) (next_at h) h.made (unless h.made h.free.0) (λ x b. get_or-replicate cap x false false (omega (arith, k.made_in)));
   }
 
   module _ {n k at : ℕ} {met : List Bool} (w : OnChain h n k at met) where
@@ -64,16 +64,16 @@ module _ (h : Heap) where
       where
         go : Dec (at ≡ h.made) → some (FreeChain k) ≡ chain_fault h
         go (yes e) = wrong (walk_short (empty_at h) (next_at h) h.made _ (ended e) (omega (arith, w.many)))
-        go (no e) = wrong (walk-stranger (empty_at h) (next_at h) h.made _ (stands e) (empty-past h at g))
+        go (no e) = wrong (walk_stranger (empty_at h) (next_at h) h.made _ (stands e) (empty_past h at g))
 
     -- a slot that was met before is the fault
     pub chain_again : at < h.made → get_or met at false ≡ true → some (FreeChain k) ≡ chain_fault h
-    chain_again g m = wrong (walk-again (empty_at h) (next_at h) h.made _ (stands (λ e. omega arith)) g m)
+    chain_again g m = wrong (walk_again (empty_at h) (next_at h) h.made _ (stands (λ e. omega arith)) g m)
 
     -- a slot that is full is the fault
     pub chain_full : {p : Pos} → at < h.made → state_at h at ≡ Full p → some (FreeChain k) ≡ chain_fault h
     chain_full {p} g e =
-        wrong (walk-stranger (empty_at h) (next_at h) h.made _ (stands (λ e. omega arith)) (empty_not h at g ∙ ap not (full_at_lem h at p e)))
+        wrong (walk_stranger (empty_at h) (next_at h) h.made _ (stands (λ e. omega arith)) (empty_not h at g ∙ ap not (full_at_lem h at p e)))
 
     -- after a slot that is empty and was not met the walk goes on
     pub chain_goes : {s : Slot} → Counted h → k < n → at < h.made → get_or met at false ≡ false → state_at h at ≡ Empty s
@@ -84,8 +84,8 @@ module _ (h : Heap) where
       room = length-set met at true ∙ w.room;
       walk = subst (λ (o : Option ℕ). Walking (empty_at h) (next_at h) h.made (unless h.made h.free.0) (k + 1) o (λ x. get_or (set met at true) x false))
           (ap (link_of h.made) e)
-          (walk-goes (empty_at h) (next_at h) h.made _ (stands (λ e. omega arith)) (omega (arith, w.many)) g
-          (empty_not h at g ∙ ap not (full-no h at e)) m
+          (walk_goes (empty_at h) (next_at h) h.made _ (stands (λ e. omega arith)) (omega (arith, w.many)) g
+          (empty_not h at g ∙ ap not (full_no h at e)) m
           (get_or-set_same met at true false (omega (arith, w.room, c.made_in))) (λ y d. get_or-set_other met at y true false d));
     }
 
@@ -98,4 +98,4 @@ module _ (h : Heap) where
     -- and one where it goes on
     pub chain_long : n ≤ k → at ≢ h.made → some (FreeChain k) ≡ chain_fault h
     chain_long l d =
-        wrong (walk-long (empty_at h) (next_at h) h.made _ (omega (arith, w.many, w.walk.within)) (empty_made h) (stands d))
+        wrong (walk_long (empty_at h) (next_at h) h.made _ (omega (arith, w.many, w.walk.within)) (empty_made h) (stands d))

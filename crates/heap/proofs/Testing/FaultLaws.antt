@@ -9,7 +9,7 @@ use native.Mathlib.Omega.{arith}
 use borrow.Author.Tests.{lt-ltb, le-ltb, eq-eqb, ne_eqb}
 use Rattle.theory.specs.First.{first_bad}
 use Rattle.theory.specs.Order.{parent}
-use Rattle.theory.proofs.First.{first_goes, first-here, first_done}
+use Rattle.theory.proofs.First.{first_goes, first_here, first_done}
 use Rattle.refusals.specs.declared.fault.Fault.{Fault}
 use Rattle.refusals.specs.Faults.{fault_by}
 use Rattle.heap.specs.declared.Pos.{Pos}
@@ -25,32 +25,32 @@ scan kind ok end i = fault_by kind (first_bad ok (end - i) i)
 
 module _ (kind : ℕ → Fault) (ok : ℕ → Bool) where
   -- after a number that passes the scan goes on
-  pub scan-goes : {end i : ℕ} → i < end → ok i ≡ true → scan kind ok end (i + 1) ≡ scan kind ok end i
+  pub scan_goes : {end i : ℕ} → i < end → ok i ≡ true → scan kind ok end (i + 1) ≡ scan kind ok end i
   unfolding scan
-  scan-goes {end} {i} l e =
+  scan_goes {end} {i} l e =
       let m : end - i - 1 ≡ end - (i + 1) = omega arith in
       ap (fault_by kind) (sym (first_goes ok (end - i) i (omega arith) e ∙ ap (λ (n : ℕ). first_bad ok n (i + 1)) m))
 
   -- at a number that fails it stops
-  pub scan-here : {end i : ℕ} → i < end → ok i ≡ false → scan kind ok end i ≡ some (kind i)
+  pub scan_here : {end i : ℕ} → i < end → ok i ≡ false → scan kind ok end i ≡ some (kind i)
   unfolding scan
-  scan-here {end} {i} l e = ap (fault_by kind) (first-here ok (end - i) i (omega arith) e)
+  scan_here {end} {i} l e = ap (fault_by kind) (first_here ok (end - i) i (omega arith) e)
 
   -- with no number left there is no fault
-  pub scan-done : {end i : ℕ} → end ≤ i → scan kind ok end i ≡ none
+  pub scan_done : {end i : ℕ} → end ≤ i → scan kind ok end i ≡ none
   unfolding scan
-  scan-done {end} {i} l = ap (fault_by kind) (first_done ok (end - i) i (omega arith))
+  scan_done {end} {i} l = ap (fault_by kind) (first_done ok (end - i) i (omega arith))
 
 module _ (h : Heap) where
   -- a slot whose state is empty is not full
-  pub full-no : (s : ℕ) {n : Slot} → state_at h s ≡ Empty n → full_at h s ≡ false
+  pub full_no : (s : ℕ) {n : Slot} → state_at h s ≡ Empty n → full_at h s ≡ false
   unfolding full_at
-  full-no s e = ap is_full e
+  full_no s e = ap is_full e
 
   -- a slot that was not made is not empty
-  pub empty-past : (s : ℕ) → h.made ≤ s → empty_at h s ≡ false
+  pub empty_past : (s : ℕ) → h.made ≤ s → empty_at h s ≡ false
   unfolding empty_at
-  empty-past s l = rw (le-ltb s h.made l)
+  empty_past s l = rw (le-ltb s h.made l)
 
   -- an entry fails whose slot was not made
   pub position_past : (i : ℕ) → h.made ≤ slot_at h i → position_ok h i ≡ false
@@ -58,21 +58,21 @@ module _ (h : Heap) where
   position_past i l = rw (le-ltb (slot_at h i) h.made l)
 
   -- an entry fails whose slot is empty
-  pub position-empty : (i : ℕ) {n : Slot} → slot_at h i < h.made → state_at h (slot_at h i) ≡ Empty n → position_ok h i ≡ false
+  pub position_empty : (i : ℕ) {n : Slot} → slot_at h i < h.made → state_at h (slot_at h i) ≡ Empty n → position_ok h i ≡ false
   unfolding position_ok
-  position-empty i l e = rw (lt-ltb (slot_at h i) h.made l) (ap (λ x. names x i) e)
+  position_empty i l e = rw (lt-ltb (slot_at h i) h.made l) (ap (λ x. names x i) e)
 
   -- an entry fails whose slot names another position
-  pub position-other : (i : ℕ) {p : Pos} → slot_at h i < h.made → state_at h (slot_at h i) ≡ Full p → p.0 ≢ i → position_ok h i ≡ false
+  pub position_other : (i : ℕ) {p : Pos} → slot_at h i < h.made → state_at h (slot_at h i) ≡ Full p → p.0 ≢ i → position_ok h i ≡ false
   unfolding position_ok
-  position-other i {p} l e d = rw (lt-ltb (slot_at h i) h.made l) (ap (λ x. names x i) e ∙ ne_eqb p.0 i d)
+  position_other i {p} l e d = rw (lt-ltb (slot_at h i) h.made l) (ap (λ x. names x i) e ∙ ne_eqb p.0 i d)
 
   -- an entry passes whose slot is full and names its position
-  pub position-yes : (i : ℕ) {p : Pos} → slot_at h i < h.made → state_at h (slot_at h i) ≡ Full p → p.0 ≡ i → position_ok h i ≡ true
+  pub position_yes : (i : ℕ) {p : Pos} → slot_at h i < h.made → state_at h (slot_at h i) ≡ Full p → p.0 ≡ i → position_ok h i ≡ true
   unfolding position_ok
-  position-yes i {p} l e d = rw (lt-ltb (slot_at h i) h.made l) (ap (λ x. names x i) e ∙ eq-eqb p.0 i d)
+  position_yes i {p} l e d = rw (lt-ltb (slot_at h i) h.made l) (ap (λ x. names x i) e ∙ eq-eqb p.0 i d)
 
   -- an entry passes where it does not go before its parent
-  pub order-not : (i : ℕ) {b : Bool} → before (entry_at h i) (entry_at h (parent i)) ≡ b → order_ok h i ≡ not b
+  pub order_not : (i : ℕ) {b : Bool} → before (entry_at h i) (entry_at h (parent i)) ≡ b → order_ok h i ≡ not b
   unfolding order_ok
-  order-not i e = ap not e
+  order_not i e = ap not e

@@ -11,7 +11,7 @@ use Rattle.theory.specs.First.{first_bad}
 use Rattle.theory.specs.WrongStep.{wrong_step}
 use Rattle.theory.proofs.Tests.{none_some, true_false, ref_true, true_ref}
 use Rattle.theory.proofs.First.{none_all, some_first}
-use Rattle.theory.proofs.WrongStep.{wrong-at}
+use Rattle.theory.proofs.WrongStep.{wrong_at}
 use Rattle.refusals.specs.declared.fault.Fault.{Fault}
 use Rattle.refusals.specs.declared.fault.Fault.TheVariants.{Count, Position, Order, FreeChain}
 use Rattle.refusals.specs.Faults.{or_else, fault_by}
@@ -20,20 +20,20 @@ use Rattle.heap.specs.Faults.{empty_at, next_at, count_ok, position_ok, order_ok
 use Rattle.heap.specs.Sound.{Placed, Ordered}
 use Rattle.heap.specs.Named.{Counts, PlacedTo, OrderedTo, Named}
 use Rattle.heap.proofs.Soundness.SoundFacts.{empty_made}
-use Rattle.heap.proofs.Testing.Test.{ref-count, place_of, order-of}
-use Rattle.heap.proofs.Testing.FaultLaws.{position-yes, order-not}
+use Rattle.heap.proofs.Testing.Test.{ref_count, place_of, order_of}
+use Rattle.heap.proofs.Testing.FaultLaws.{position_yes, order_not}
 
 module _ (h : Heap) where
   -- where the test of the counts finds nothing they are right, and else they are not
-  counts-right : count_fault h ≡ none → Counts h
-  counts-right e = let t = ref_true (ref-count h) (ap clear e) in record { len_in = t.0; made_in = t.1.0; counted = t.1.1 }
+  counts_right : count_fault h ≡ none → Counts h
+  counts_right e = let t = ref_true (ref_count h) (ap clear e) in record { len_in = t.0; made_in = t.1.0; counted = t.1.1 }
 
-  counts-wrong : {f : Fault} → count_fault h ≡ some f → ¬ Counts h
-  counts-wrong e c = true_false (true_ref (ref-count h) (c.len_in, (c.made_in, c.counted))) (ap clear e)
+  counts_wrong : {f : Fault} → count_fault h ≡ some f → ¬ Counts h
+  counts_wrong e c = true_false (true_ref (ref_count h) (c.len_in, (c.made_in, c.counted))) (ap clear e)
 
-  count-kind : (f : Fault) → count_fault h ≡ some f → Count ≡ f
+  count_kind : (f : Fault) → count_fault h ≡ some f → Count ≡ f
   unfolding count_fault
-  count-kind f e = go (count_ok h) e
+  count_kind f e = go (count_ok h) e
     where
       go : (b : Bool) → cond b none (some Count) ≡ some f → Count ≡ f
       go true e = absurd (none_some refl e)
@@ -44,51 +44,51 @@ module _ (h : Heap) where
   placed n a j l = place_of h j (a j (omega arith) l)
 
   ordered : (n : ℕ) → ((i : ℕ) → 1 ≤ i → i < n → order_ok h i ≡ true) → OrderedTo h n
-  ordered n a j z l = order-of h j (a j (omega arith) l)
+  ordered n a j z l = order_of h j (a j (omega arith) l)
 
   misplaced : (i : ℕ) → position_ok h i ≡ false → ¬ Placed h i
-  misplaced i e p = true_false (position-yes h i p.0 p.1 refl) e
+  misplaced i e p = true_false (position_yes h i p.0 p.1 refl) e
 
   disordered : (i : ℕ) → order_ok h i ≡ false → ¬ Ordered h i
-  disordered i e o = true_false (order-not h i o) e
+  disordered i e o = true_false (order_not h i o) e
 
-  chain-named : Counts h → PlacedTo h h.len → OrderedTo h h.len → (f : Fault) → chain_fault h ≡ some f → Named h f
+  chain_named : Counts h → PlacedTo h h.len → OrderedTo h h.len → (f : Fault) → chain_fault h ≡ some f → Named h f
   unfolding chain_fault
-  chain-named c p o f e = go (wrong_step (empty_at h) (next_at h) h.made (unless h.made h.free.0)) refl e
+  chain_named c p o f e = go (wrong_step (empty_at h) (next_at h) h.made (unless h.made h.free.0)) refl e
     where
       go : (x : Option ℕ) → wrong_step (empty_at h) (next_at h) h.made (unless h.made h.free.0) ≡ x → fault_by FreeChain x ≡ some f → Named h f
       go none q e = absurd (none_some refl e)
       go (some k) q e =
           let z : FreeChain k ≡ f = cc in
-          subst (Named h) z (c, p, o, wrong-at (empty_at h) (next_at h) (unless h.made h.free.0) h.made (empty_made h) k q)
+          subst (Named h) z (c, p, o, wrong_at (empty_at h) (next_at h) (unless h.made h.free.0) h.made (empty_made h) k q)
 
-  order-named : Counts h → PlacedTo h h.len → (f : Fault) → or_else (order_fault h) (chain_fault h) ≡ some f → Named h f
+  order_named : Counts h → PlacedTo h h.len → (f : Fault) → or_else (order_fault h) (chain_fault h) ≡ some f → Named h f
   unfolding order_fault
-  order-named c p f e = go (first_bad (order_ok h) (h.len - 1) 1) refl e
+  order_named c p f e = go (first_bad (order_ok h) (h.len - 1) 1) refl e
     where
       go : (x : Option ℕ) → first_bad (order_ok h) (h.len - 1) 1 ≡ x → or_else (fault_by Order x) (chain_fault h) ≡ some f → Named h f
-      go none q e = chain-named c p (ordered h.len (λ i z l. none_all (order_ok h) (h.len - 1) 1 q i z (omega arith))) f e
+      go none q e = chain_named c p (ordered h.len (λ i z l. none_all (order_ok h) (h.len - 1) 1 q i z (omega arith))) f e
       go (some i) q e =
           let z : Order i ≡ f = cc in
           let a = some_first (order_ok h) (h.len - 1) 1 i q in
           subst (Named h) z (c, p, ordered i a.3, omega (arith, a.0), omega (arith, a.0, a.1), disordered i a.2)
 
-  position-named : Counts h → (f : Fault) → or_else (position_fault h) (or_else (order_fault h) (chain_fault h)) ≡ some f → Named h f
+  position_named : Counts h → (f : Fault) → or_else (position_fault h) (or_else (order_fault h) (chain_fault h)) ≡ some f → Named h f
   unfolding position_fault
-  position-named c f e = go (first_bad (position_ok h) h.len 0) refl e
+  position_named c f e = go (first_bad (position_ok h) h.len 0) refl e
     where
       go : (x : Option ℕ) → first_bad (position_ok h) h.len 0 ≡ x → or_else (fault_by Position x) (or_else (order_fault h) (chain_fault h)) ≡ some f → Named h f
-      go none q e = order-named c (placed h.len (λ i z l. none_all (position_ok h) h.len 0 q i z (omega arith))) f e
+      go none q e = order_named c (placed h.len (λ i z l. none_all (position_ok h) h.len 0 q i z (omega arith))) f e
       go (some i) q e =
           let z : Position i ≡ f = cc in
           let a = some_first (position_ok h) h.len 0 i q in
           subst (Named h) z (c, placed i a.3, omega (arith, a.1), misplaced i a.2)
 
   -- THE FAULT THAT IS NAMED
-  pub fault-named : (f : Fault) → fault_of h ≡ some f → Named h f
+  pub fault_named : (f : Fault) → fault_of h ≡ some f → Named h f
   unfolding fault_of
-  fault-named f e = go (count_fault h) refl e
+  fault_named f e = go (count_fault h) refl e
     where
       go : (x : Option Fault) → count_fault h ≡ x → or_else x (or_else (position_fault h) (or_else (order_fault h) (chain_fault h))) ≡ some f → Named h f
-      go none q e = position-named (counts-right q) f e
-      go (some y) q e = subst (Named h) (count-kind f (q ∙ e)) (counts-wrong q)
+      go none q e = position_named (counts_right q) f e
+      go (some y) q e = subst (Named h) (count_kind f (q ∙ e)) (counts_wrong q)

@@ -16,7 +16,7 @@ use Rattle.theory.specs.First.{first_bad}
 use Rattle.theory.specs.WrongStep.{wrong_step}
 use Rattle.theory.proofs.Tests.{ref_by, ref_le, ref_eq, ref_and, ref_map, ref_true, true_false, none_some, and_left, and_right}
 use Rattle.theory.proofs.First.{none_all, all_none}
-use Rattle.theory.proofs.WrongStep.{wrong-none}
+use Rattle.theory.proofs.WrongStep.{wrong_none}
 use Rattle.refusals.specs.declared.fault.Fault.{Fault}
 use Rattle.refusals.specs.declared.fault.Fault.TheVariants.{Count, Position, Order, FreeChain}
 use Rattle.refusals.specs.Faults.{or_else}
@@ -29,7 +29,7 @@ use Rattle.heap.specs.Rules.{entry_at, state_at, slot_at, before}
 use Rattle.heap.specs.Faults.{names, full_at, empty_at, next_at, count_ok, position_ok, order_ok, count_fault, position_fault, order_fault, chain_fault, fault_of, consistent_of}
 use Rattle.heap.specs.Sound.{Sound, Counted}
 use Rattle.heap.proofs.Soundness.SoundFacts.{empty_made}
-use Rattle.heap.proofs.Testing.FaultLaws.{position-yes, order-not}
+use Rattle.heap.proofs.Testing.FaultLaws.{position_yes, order_not}
 
 -- a scan finds none exactly where all pass
 ref_all : (ok : ℕ → Bool) (n k : ℕ) → Ref ((i : ℕ) → k ≤ i → i < k + n → ok i ≡ true) (clear (first_bad ok n k))
@@ -50,9 +50,9 @@ names_full (Empty n) i e = absurd (false≢true e)
 
 module _ (h : Heap) where
   -- each kind of fault is absent exactly where what it tests holds
-  pub ref-count : Ref ((h.len ≤ cap) × ((h.made ≤ cap) × (count (full_at h) h.made ≡ h.len))) (clear (count_fault h))
+  pub ref_count : Ref ((h.len ≤ cap) × ((h.made ≤ cap) × (count (full_at h) h.made ≡ h.len))) (clear (count_fault h))
   unfolding count_fault count_ok
-  ref-count = subst (Ref _) (go (count_ok h)) (ref_and (ref_le h.len cap) (ref_and (ref_le h.made cap) (ref_eq (count (full_at h) h.made) h.len)))
+  ref_count = subst (Ref _) (go (count_ok h)) (ref_and (ref_le h.len cap) (ref_and (ref_le h.made cap) (ref_eq (count (full_at h) h.made) h.len)))
     where
       go : (b : Bool) → b ≡ clear (cond b none (some Count))
       go true = refl
@@ -61,28 +61,28 @@ module _ (h : Heap) where
   -- what holds of the counts where they have no fault
   pub counts : {f : Option Fault} → f ≡ count_fault h → f ≡ none → (h.len ≤ cap) × Counted h
   counts e n =
-      let t = ref_true ref-count (ap clear (sym e ∙ n)) in
+      let t = ref_true ref_count (ap clear (sym e ∙ n)) in
       (t.0, record { made_in = t.1.0; counted = t.1.1 })
 
-  ref-position : Ref ((i : ℕ) → 0 ≤ i → i < 0 + h.len → position_ok h i ≡ true) (clear (position_fault h))
+  ref_position : Ref ((i : ℕ) → 0 ≤ i → i < 0 + h.len → position_ok h i ≡ true) (clear (position_fault h))
   unfolding position_fault
-  ref-position = rw (clear_by Position (first_bad (position_ok h) h.len 0)) (ref_all (position_ok h) h.len 0)
+  ref_position = rw (clear_by Position (first_bad (position_ok h) h.len 0)) (ref_all (position_ok h) h.len 0)
 
-  ref-order : Ref ((i : ℕ) → 1 ≤ i → i < 1 + (h.len - 1) → order_ok h i ≡ true) (clear (order_fault h))
+  ref_order : Ref ((i : ℕ) → 1 ≤ i → i < 1 + (h.len - 1) → order_ok h i ≡ true) (clear (order_fault h))
   unfolding order_fault
-  ref-order = rw (clear_by Order (first_bad (order_ok h) (h.len - 1) 1)) (ref_all (order_ok h) (h.len - 1) 1)
+  ref_order = rw (clear_by Order (first_bad (order_ok h) (h.len - 1) 1)) (ref_all (order_ok h) (h.len - 1) 1)
 
-  abbrev chainTest : Bool
-  chainTest = chain_okb (empty_at h) (next_at h) h.made (unless h.made h.free.0)
+  abbrev chain_test : Bool
+  chain_test = chain_okb (empty_at h) (next_at h) h.made (unless h.made h.free.0)
 
-  chain-no : clear (chain_fault h) ≡ chainTest
+  chain_no : clear (chain_fault h) ≡ chain_test
   unfolding chain_fault
-  chain-no =
+  chain_no =
       clear_by FreeChain (wrong_step (empty_at h) (next_at h) h.made (unless h.made h.free.0))
-      ∙ wrong-none (empty_at h) (next_at h) (unless h.made h.free.0) h.made (empty_made h)
+      ∙ wrong_none (empty_at h) (next_at h) (unless h.made h.free.0) h.made (empty_made h)
 
-  ref-chain : Ref (chainTest ≡ true) (clear (chain_fault h))
-  ref-chain = rw chain-no (ref_self chainTest)
+  ref_chain : Ref (chain_test ≡ true) (clear (chain_fault h))
+  ref_chain = rw chain_no (ref_self chain_test)
 
   -- the four together
   tested : clear (count_fault h) && (clear (position_fault h) && (clear (order_fault h) && clear (chain_fault h))) ≡ consistent_of h
@@ -97,24 +97,24 @@ module _ (h : Heap) where
   unfolding position_ok
   place_of i e = (ltb-true _ _ (and_left _ _ e), names_full _ i (and_right (ltb (slot_at h i) h.made) _ e))
 
-  pub order-of : (i : ℕ) → order_ok h i ≡ true → before (entry_at h i) (entry_at h (parent i)) ≡ false
+  pub order_of : (i : ℕ) → order_ok h i ≡ true → before (entry_at h i) (entry_at h (parent i)) ≡ false
   unfolding order_ok
-  order-of i e = not-true _ e
+  order_of i e = not-true _ e
 
   -- a heap of which the test says yes, however long its arrays are, has no more entries than the capacity
-  pub tested-len : consistent_of h ≡ true → h.len ≤ cap
-  tested-len e = (ref_true ref-count (and_left _ _ (tested ∙ e))).0
+  pub tested_len : consistent_of h ≡ true → h.len ≤ cap
+  tested_len e = (ref_true ref_count (and_left _ _ (tested ∙ e))).0
 
   -- and the slot of each entry was made, and is full with the entry's position
-  pub tested-forth : consistent_of h ≡ true → (p : ℕ) → p < h.len → (slot_at h p < h.made) × (state_at h (slot_at h p) ≡ Full (record { 0 = p }))
-  tested-forth e p l =
-      place_of p (ref_true ref-position (and_left _ _ (and_right (clear (count_fault h)) _ (tested ∙ e))) p (omega arith) (omega arith))
+  pub tested_forth : consistent_of h ≡ true → (p : ℕ) → p < h.len → (slot_at h p < h.made) × (state_at h (slot_at h p) ≡ Full (record { 0 = p }))
+  tested_forth e p l =
+      place_of p (ref_true ref_position (and_left _ _ (and_right (clear (count_fault h)) _ (tested ∙ e))) p (omega arith) (omega arith))
 
   -- the heap test says yes exactly where the heap is sound; how long the arrays are the code's types say
-  pub sound-test : length h.entries ≡ cap → length h.slots ≡ cap → Ref (Sound h) (consistent_of h)
-  sound-test n m =
+  pub sound_test : length h.entries ≡ cap → length h.slots ≡ cap → Ref (Sound h) (consistent_of h)
+  sound_test n m =
       subst (Ref (Sound h)) tested
-      (ref_map (ref_and ref-count (ref_and ref-position (ref_and ref-order ref-chain)))
+      (ref_map (ref_and ref_count (ref_and ref_position (ref_and ref_order ref_chain)))
       (λ t. record {
         entries_long = n;
         slots_long = m;
@@ -122,17 +122,17 @@ module _ (h : Heap) where
         made_in = t.0.1.0;
         counted = t.0.1.1;
         forth = λ p l. place_of p (t.1.0 p (omega arith) (omega arith));
-        ordered = λ i p l. order-of i (t.1.1.0 i (omega arith) (omega arith));
+        ordered = λ i p l. order_of i (t.1.1.0 i (omega arith) (omega arith));
         chained = t.1.1.1;
       })
       (λ s. (
         (s.len_in, (s.made_in, s.counted)),
         (
-          (λ i z l. position-yes h i (s.forth i (omega arith)).0 (s.forth i (omega arith)).1 refl),
-          ((λ i z l. order-not h i (s.ordered i (omega arith) (omega arith))), s.chained),
+          (λ i z l. position_yes h i (s.forth i (omega arith)).0 (s.forth i (omega arith)).1 refl),
+          ((λ i z l. order_not h i (s.ordered i (omega arith) (omega arith))), s.chained),
         ),
       )))
 
   -- a heap of which the test says yes is sound
-  pub consistent-sound : length h.entries ≡ cap → length h.slots ≡ cap → consistent_of h ≡ true → Sound h
-  consistent-sound n m e = ref_true (sound-test n m) e
+  pub consistent_sound : length h.entries ≡ cap → length h.slots ≡ cap → consistent_of h ≡ true → Sound h
+  consistent_sound n m e = ref_true (sound_test n m) e

@@ -28,62 +28,62 @@ use Rattle.heap.proofs.AsList.Items.{and_same}
 use Rattle.heap.proofs.Soundness.SoundFacts.{empty_made}
 
 module _ (g h : Heap) (r : SameInUse g h) where
-  full-count : count (full_at g) g.made ≡ count (full_at h) h.made
+  full_count : count (full_at g) g.made ≡ count (full_at h) h.made
   unfolding full_at
-  full-count = ap (count (full_at g)) r.same_made ∙ count_same (full_at g) (full_at h) h.made (λ i b. ap is_full (r.slots i b))
+  full_count = ap (count (full_at g)) r.same_made ∙ count_same (full_at g) (full_at h) h.made (λ i b. ap is_full (r.slots i b))
 
-  count-ok : count_ok g ≡ count_ok h
+  count_ok_lem : count_ok g ≡ count_ok h
   unfolding count_ok
-  count-ok = λ t. leb (r.same_len t) cap && (leb (r.same_made t) cap && eqb (full-count t) (r.same_len t))
+  count_ok_lem = λ t. leb (r.same_len t) cap && (leb (r.same_made t) cap && eqb (full_count t) (r.same_len t))
 
-  position-ok : (i : ℕ) → i < h.len → position_ok g i ≡ position_ok h i
+  position_ok_lem : (i : ℕ) → i < h.len → position_ok g i ≡ position_ok h i
   unfolding position_ok
-  position-ok i b =
+  position_ok_lem i b =
       (λ t. ltb (r.entries i b t).slot.0 (r.same_made t) && names (state_at g (r.entries i b t).slot.0) i)
       ∙ and_same (ref_lt (slot_at h i) h.made) (λ m. ap (λ (x : SlotState). names x i) (r.slots (slot_at h i) m))
 
-  order-ok : (i : ℕ) → i < h.len → order_ok g i ≡ order_ok h i
+  order_ok_lem : (i : ℕ) → i < h.len → order_ok g i ≡ order_ok h i
   unfolding order_ok
-  order-ok i b = let c : parent i < h.len = omega arith in λ t. not (before (r.entries i b t) (r.entries (parent i) c t))
+  order_ok_lem i b = let c : parent i < h.len = omega arith in λ t. not (before (r.entries i b t) (r.entries (parent i) c t))
 
-  empty-ok : (s : ℕ) → empty_at g s ≡ empty_at h s
+  empty_ok : (s : ℕ) → empty_at g s ≡ empty_at h s
   unfolding empty_at
-  empty-ok s =
+  empty_ok s =
       ap (λ (m : ℕ). ltb s m && not (is_full (state_at g s))) r.same_made
       ∙ and_same (ref_lt s h.made) (λ b. ap (λ (x : SlotState). not (is_full x)) (r.slots s b))
 
-  next-ok : (s : ℕ) → empty_at g s ≡ true → next_at g s ≡ next_at h s
+  next_ok : (s : ℕ) → empty_at g s ≡ true → next_at g s ≡ next_at h s
   unfolding next_at
-  next-ok s e = ap₂ link_of r.same_made (r.slots s (empty_made h s (sym (empty-ok s) ∙ e)))
+  next_ok s e = ap₂ link_of r.same_made (r.slots s (empty_made h s (sym (empty_ok s) ∙ e)))
 
-  position-fault : position_fault g ≡ position_fault h
+  position_fault_lem : position_fault g ≡ position_fault h
   unfolding position_fault
-  position-fault =
+  position_fault_lem =
       ap (fault_by Position)
       (ap (λ (n : ℕ). first_bad (position_ok g) n 0) r.same_len
-      ∙ first_same (position_ok g) (position_ok h) h.len 0 (λ i l b. position-ok i (omega arith)))
+      ∙ first_same (position_ok g) (position_ok h) h.len 0 (λ i l b. position_ok_lem i (omega arith)))
 
-  order-fault : order_fault g ≡ order_fault h
+  order_fault_lem : order_fault g ≡ order_fault h
   unfolding order_fault
-  order-fault =
+  order_fault_lem =
       ap (fault_by Order)
       (ap (λ (n : ℕ). first_bad (order_ok g) (n - 1) 1) r.same_len
-      ∙ first_same (order_ok g) (order_ok h) (h.len - 1) 1 (λ i l b. order-ok i (omega arith)))
+      ∙ first_same (order_ok g) (order_ok h) (h.len - 1) 1 (λ i l b. order_ok_lem i (omega arith)))
 
-  chain-fault : chain_fault g ≡ chain_fault h
+  chain_fault_lem : chain_fault g ≡ chain_fault h
   unfolding chain_fault
-  chain-fault =
+  chain_fault_lem =
       ap (fault_by FreeChain)
       ((λ t. wrong_step (empty_at g) (next_at g) (r.same_made t) (unless (r.same_made t) (r.same_free t).0))
-      ∙ wrong_same (empty_at g) (empty_at h) (next_at g) (next_at h) empty-ok next-ok h.made (λ s e. empty_made h s (sym (empty-ok s) ∙ e))
+      ∙ wrong_same (empty_at g) (empty_at h) (next_at g) (next_at h) empty_ok next_ok h.made (λ s e. empty_made h s (sym (empty_ok s) ∙ e))
       (unless h.made h.free.0))
 
   -- the scans find the same fault
   pub fault_in_use : fault_of g ≡ fault_of h
   unfolding fault_of count_fault
-  fault_in_use = λ t. or_else (cond (count-ok t) none (some Count)) (or_else (position-fault t) (or_else (order-fault t) (chain-fault t)))
+  fault_in_use = λ t. or_else (cond (count_ok_lem t) none (some Count)) (or_else (position_fault_lem t) (or_else (order_fault_lem t) (chain_fault_lem t)))
 
   -- the test says the same
-  pub consistent-in-use : consistent_of g ≡ consistent_of h
+  pub consistent_in_use : consistent_of g ≡ consistent_of h
   unfolding consistent_of
-  consistent-in-use = ap clear fault_in_use
+  consistent_in_use = ap clear fault_in_use

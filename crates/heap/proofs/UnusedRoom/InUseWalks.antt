@@ -21,7 +21,7 @@ use Rattle.heap.specs.Slab.{Slab}
 use Rattle.heap.specs.InUse.{Twins}
 use Rattle.heap.proofs.AsList.Items.{choose}
 use Rattle.heap.proofs.Walking.Laws.{len_put, len_swap, len_added, len_taken, len_vacated, child_below}
-use Rattle.heap.proofs.UnusedRoom.InUseStores.{put-twins, short-twins, vacated-twins, swap_twins, added-twins}
+use Rattle.heap.proofs.UnusedRoom.InUseStores.{put_twins, short_twins, vacated_twins, swap_twins, added_twins}
 
 -- walks that took as many swaps, and left heaps that differ only in room not in use
 pub record SameMoved (m n : Moved) : Type 0 where
@@ -49,13 +49,13 @@ module _ (g h : Heap) (r : Twins g h) (i : ℕ) (b : i < h.len) where
   before_same : (j k : ℕ) → j < h.len → k < h.len → before (entry_at g j) (entry_at g k) ≡ before (entry_at h j) (entry_at h k)
   before_same j k c d = λ t. before (r.same.entries j c t) (r.same.entries k d t)
 
-  rises-same : rises_at g i ≡ rises_at h i
+  rises_same : rises_at g i ≡ rises_at h i
   unfolding rises_at
-  rises-same = ap (cond (eqb i 0) false) (before_same i (parent i) b (omega arith))
+  rises_same = ap (cond (eqb i 0) false) (before_same i (parent i) b (omega arith))
 
-  child-same : child_of g i ≡ child_of h i
+  child_same : child_of g i ≡ child_of h i
   unfolding child_of
-  child-same =
+  child_same =
       ap (λ (n : ℕ). pick_child (ltb (2 * i + 1) n) (ltb (2 * i + 2) n)
       (before (entry_at g (2 * i + 1)) (entry_at g i))
       (before (entry_at g (2 * i + 2)) (entry_at g (2 * i + 1)))
@@ -71,7 +71,7 @@ unfolding up_from
 up_in_use zero g h i n r b = record { heaps = r; same_swaps = refl }
 up_in_use (suc k) g h i n r b =
     let c : parent i < h.len = omega arith in
-    rw (rises-same g h r i b)
+    rw (rises_same g h r i b)
     (choose SameMoved (rises_at h i)
     (up_in_use k (swap_at g i (parent i)) (swap_at h i (parent i)) (parent i) (n + 1) (swap_twins g h r i (parent i) b c) (rw len_swap c))
     (record { heaps = r; same_swaps = refl }))
@@ -81,7 +81,7 @@ down_in_use : (k : ℕ) (g h : Heap) (i n : ℕ) → Twins g h → i < h.len →
 unfolding down_from
 down_in_use zero g h i n r b = record { heaps = r; same_swaps = refl }
 down_in_use (suc k) g h i n r b =
-    rw (child-same g h r i b)
+    rw (child_same g h r i b)
     (choose_ref SameMoved refl (ref_eq (child_of h i) i)
     (λ _. record { heaps = r; same_swaps = refl })
     (λ e. let c : child_of h i < h.len = (child_below h i e).1 in
@@ -99,9 +99,9 @@ unfolding filled_of
 filled_in_use g h r p b =
     subst (λ (m : Moved). SameMoved m (filled_of h p)) (sym (λ t. fill_by g p (fewer t) (last t) (before (last t) (r.same.entries p b t))))
     (choose_ref SameMoved refl (ref_eq p (h.len - 1))
-    (λ _. record { heaps = short-twins g h r (h.len - 1) (omega arith); same_swaps = refl })
+    (λ _. record { heaps = short_twins g h r (h.len - 1) (omega arith); same_swaps = refl })
     (λ n. let c : p < h.len - 1 = omega arith in
-    let s = put-twins (with_len g (h.len - 1)) (with_len h (h.len - 1)) (short-twins g h r (h.len - 1) (omega arith)) p refl in
+    let s = put_twins (with_len g (h.len - 1)) (with_len h (h.len - 1)) (short_twins g h r (h.len - 1) (omega arith)) p refl in
     choose SameMoved (before (entry_at h (h.len - 1)) (entry_at h p))
     (up_in_use p _ _ p 0 s (rw len_put c))
     (down_in_use (h.len - 1) _ _ p 0 s (rw len_put c))))
@@ -114,13 +114,13 @@ filled_in_use g h r p b =
 
 module _ (g h : Heap) (r : Twins g h) where
   -- the entry at a position in use is removed
-  pub removed-in-use : (s : Slot) (p : Pos) → p.0 < h.len → SameMoved (removed_of g s p) (removed_of h s p)
+  pub removed_in_use : (s : Slot) (p : Pos) → p.0 < h.len → SameMoved (removed_of g s p) (removed_of h s p)
   unfolding removed_of
-  removed-in-use s p b = filled_in_use (vacated_of g s) (vacated_of h s) (vacated-twins g h r s) p.0 (rw len_vacated b)
+  removed_in_use s p b = filled_in_use (vacated_of g s) (vacated_of h s) (vacated_twins g h r s) p.0 (rw len_vacated b)
 
   -- a push
-  pub pushed-in-use : Slab h → (at n : ℕ) (place : Place) → SameMoved (pushed_of g at n place) (pushed_of h at n place)
+  pub pushed_in_use : Slab h → (at n : ℕ) (place : Place) → SameMoved (pushed_of g at n place) (pushed_of h at n place)
   unfolding pushed_of
-  pushed-in-use s at n place =
+  pushed_in_use s at n place =
       subst (λ (k : ℕ). SameMoved (up_from k (added_of (taken_of g) (new_entry g at n place)) k 0) (pushed_of h at n place)) (sym r.same.same_len)
-      (up_in_use h.len _ _ h.len 0 (added-twins g h r s at n place) (rw (len_added, len_taken) (omega arith)))
+      (up_in_use h.len _ _ h.len 0 (added_twins g h r s at n place) (rw (len_added, len_taken) (omega arith)))

@@ -18,7 +18,7 @@ use Rattle.heap.specs.declared.SlotState.TheVariants.{Full}
 use Rattle.heap.specs.declared.Heap.{Heap}
 use Rattle.heap.specs.Rules.{entry_at, slot_at, before, put_at, swap_at, rises_at, pick_child, child_of}
 use Rattle.heap.specs.Sound.{SlotsIn}
-use Rattle.heap.proofs.Slots.Stored.{slot_of, entry-same, entry_other}
+use Rattle.heap.proofs.Slots.Stored.{slot_of, entry_same, entry_other}
 use Rattle.heap.proofs.Walking.Laws.{len_put, slots_in_swap, rises_is, child_picks}
 
 -- a store that is made good later, whatever else was stored between, might as well not be made
@@ -46,12 +46,12 @@ pub hole_step : (g : Heap) (i j : ℕ) (e : Entry) → i < length g.entries → 
 unfolding swap_at
 hole_step g i j e b n =
     ap (λ (x : Entry). put_at (put_at (put_at g i e) i x) j (entry_at (put_at g i e) i)) (entry_other g i e j n)
-    ∙ ap (λ (x : Entry). put_at (put_at (put_at g i e) i (entry_at g j)) j x) (entry-same g i e b)
+    ∙ ap (λ (x : Entry). put_at (put_at (put_at g i e) i (entry_at g j)) j x) (entry_same g i e b)
     ∙ put_over g i j e (entry_at g j)
 
 -- the carried entry has its slot in the slab, and so has every other entry
 pub carried_in : (g : Heap) (i : ℕ) (e : Entry) → i < length g.entries → i < g.len → SlotsIn (put_at g i e) → e.slot.0 < cap
-carried_in g i e b l r = subst (λ (x : Entry). x.slot.0 < cap) (entry-same g i e b) (r.slots_in_range i (rw len_put l))
+carried_in g i e b l r = subst (λ (x : Entry). x.slot.0 < cap) (entry_same g i e b) (r.slots_in_range i (rw len_put l))
 
 pub other_in : (g : Heap) (i j : ℕ) (e : Entry) → (j ≡ i → ⊥) → j < g.len → SlotsIn (put_at g i e) → slot_at g j < cap
 other_in g i j e n l r = subst (λ (x : Entry). x.slot.0 < cap) (entry_other g i e j n) (r.slots_in_range j (rw len_put l))
@@ -65,7 +65,7 @@ pub hole_rises : (g : Heap) (i : ℕ) (e : Entry) → i < length g.entries → 0
 hole_rises g i e b p =
     let n : parent i ≡ i → ⊥ = λ q. omega (arith, p, q) in
     rises_is (put_at g i e) i p
-    ∙ ap (λ (x : Entry). before x (entry_at (put_at g i e) (parent i))) (entry-same g i e b)
+    ∙ ap (λ (x : Entry). before x (entry_at (put_at g i e) (parent i))) (entry_same g i e b)
     ∙ ap (before e) (entry_other g i e (parent i) n)
 
 -- WHICH CHILD of a hole is to rise: 0 for the left one, 1 for the right one where there is one and it is before the left
@@ -109,7 +109,7 @@ hole_child g i k e b l = go
     h = put_at g i e
 
     here : entry_at h i ≡ e
-    here = entry-same g i e b
+    here = entry_same g i e b
 
     there : (j : ℕ) → i < j → entry_at h j ≡ entry_at g j
     there j p = entry_other g i e j (λ q. omega (arith, p, q))

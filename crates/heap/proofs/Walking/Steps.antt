@@ -25,9 +25,9 @@ abbrev pub move_last : Heap → Slot → Pos → Heap
 move_last h t p = put_at (with_len (vacated_of h t) (h.len - 1)) p.0 (entry_at h (h.len - 1))
 
 module _ (P : Heap → Type 0) where
-  keeps-if : (t : Bool) (x y : Moved) → (t ≡ true → P x.heap) → (t ≡ false → P y.heap) → P (cond t x y).heap
-  keeps-if true x y f g = f refl
-  keeps-if false x y f g = g refl
+  keeps_if : (t : Bool) (x y : Moved) → (t ≡ true → P x.heap) → (t ≡ false → P y.heap) → P (cond t x y).heap
+  keeps_if true x y f g = f refl
+  keeps_if false x y f g = g refl
 
   module _ (w : Swaps P) where
     -- the way up
@@ -36,7 +36,7 @@ module _ (P : Heap → Type 0) where
     up_by zero h i n p b = p
     up_by (suc k) h i n p b =
         let c : parent i < h.len = omega arith in
-        keeps-if (rises_at h i) _ _
+        keeps_if (rises_at h i) _ _
         (λ _. up_by k (swap_at h i (parent i)) (parent i) (n + 1) (w h i (parent i) p b c) (rw len_swap c))
         (λ _. p)
 
@@ -45,7 +45,7 @@ module _ (P : Heap → Type 0) where
     unfolding down_from
     down_by zero h i n p b = p
     down_by (suc k) h i n p b =
-        keeps-if (eqb (child_of h i) i) _ _
+        keeps_if (eqb (child_of h i) i) _ _
         (λ _. p)
         (λ e. let c : child_of h i < h.len = (child_below h i (eqb-false _ _ e)).1 in
         down_by k (swap_at h i (child_of h i)) (child_of h i) (n + 1) (w h i (child_of h i) p b c) (rw len_swap c))
@@ -62,10 +62,10 @@ module _ (P : Heap → Type 0) where
         → P (removed_of h t p).heap
     unfolding removed_of filled_of vacated_of put_at
     remove_by_lem h t p b f g =
-        keeps-if (eqb p.0 (h.len - 1)) _ _
+        keeps_if (eqb p.0 (h.len - 1)) _ _
         (λ e. f (eqb-true _ _ e))
         (λ e. let n : p.0 ≡ h.len - 1 → ⊥ = eqb-false _ _ e in
         let c : p.0 < h.len - 1 = omega arith in
-        keeps-if (before (entry_at h (h.len - 1)) (entry_at h p.0)) _ _
+        keeps_if (before (entry_at h (h.len - 1)) (entry_at h p.0)) _ _
         (λ _. up_by p.0 (move_last h t p) p.0 0 (g n) c)
         (λ _. down_by (h.len - 1) (move_last h t p) p.0 0 (g n) c))

@@ -16,15 +16,15 @@ use Rattle.timers.specs.Calls.{add_of, step, said}
 use Rattle.host.specs.Calls.{add_on}
 use Rattle.host.specs.Seen.{word_or}
 use Rattle.host.proofs.Readings.{no_handle_lem, not_added}
-use Rattle.host.proofs.Settled.{set-refused, set-done}
-use Rattle.host.proofs.Writing.{after-written}
+use Rattle.host.proofs.Settled.{set_refused, set_done}
+use Rattle.host.proofs.Writing.{after_written}
 use Rattle.host.proofs.nurberosh_add.Goals as goal
 
 pub returns-in-Refused : goal.returns-in-Refused
 unfolding add_on
 returns-in-Refused c =
     let a = c.args in
-    let t = set-refused a.image.now (λ (s : Set). add_of s a.deadline) c.read-got.result c.read-got.ensures c.in-Refused.why
+    let t = set_refused a.image.now (λ (s : Set). add_of s a.deadline) c.read-got.result c.read-got.ensures c.in-Refused.why
     c.in-Refused.is c.status.ensures
     in
     record {
@@ -39,8 +39,8 @@ returns-in_default-y c =
     let a = c.args in
     let b = a.image.now in
     let v = c.read-got.result in
-    let t = set-done b (λ (s : Set). add_of s a.deadline) v c.read-got.ensures c.add-a.result c.in_default.is c.add-a.ensures
-    (after-written b v (record { small = λ j. let f : Fits w8 (get_or c.args.image.now j 0) = search rules in omega (arith, f.fits) }) c.read-got.ensures c.in_default.is (C.Add a.deadline) [])
+    let t = set_done b (λ (s : Set). add_of s a.deadline) v c.read-got.ensures c.add-a.result c.in_default.is c.add-a.ensures
+    (after_written b v (record { small = λ j. let f : Fits w8 (get_or c.args.image.now j 0) = search rules in omega (arith, f.fits) }) c.read-got.ensures c.in_default.is (C.Add a.deadline) [])
     c.ended.ensures
     in
     record {
@@ -57,8 +57,8 @@ returns c =
     let a = c.args in
     let b = a.image.now in
     let v = c.read-got.result in
-    let t = set-done b (λ (s : Set). add_of s a.deadline) v c.read-got.ensures c.add-a.result c.in_default.is c.add-a.ensures
-    (after-written b v (record { small = λ j. let f : Fits w8 (get_or c.args.image.now j 0) = search rules in omega (arith, f.fits) }) c.read-got.ensures c.in_default.is (C.Add a.deadline) [])
+    let t = set_done b (λ (s : Set). add_of s a.deadline) v c.read-got.ensures c.add-a.result c.in_default.is c.add-a.ensures
+    (after_written b v (record { small = λ j. let f : Fits w8 (get_or c.args.image.now j 0) = search rules in omega (arith, f.fits) }) c.read-got.ensures c.in_default.is (C.Add a.deadline) [])
     c.ended-2.ensures
     in
     record {

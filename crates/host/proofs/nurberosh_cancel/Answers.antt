@@ -13,15 +13,15 @@ use Rattle.timers.specs.declared.Call.TheVariants as C
 use Rattle.timers.specs.Calls.{cancel_of, step}
 use Rattle.host.specs.Numbers.{handle_from}
 use Rattle.host.specs.Calls.{cancel_on}
-use Rattle.host.proofs.Settled.{set-refused, set-done}
-use Rattle.host.proofs.Writing.{after-written}
+use Rattle.host.proofs.Settled.{set_refused, set_done}
+use Rattle.host.proofs.Writing.{after_written}
 use Rattle.host.proofs.nurberosh_cancel.Goals as goal
 
 pub returns-in-Refused : goal.returns-in-Refused
 unfolding cancel_on
 returns-in-Refused c =
     let a = c.args in
-    let t = set-refused a.image.now (λ (s : Set). cancel_of s (handle_from a.handle)) c.read-got.result c.read-got.ensures
+    let t = set_refused a.image.now (λ (s : Set). cancel_of s (handle_from a.handle)) c.read-got.result c.read-got.ensures
     c.in-Refused.why c.in-Refused.is c.status.ensures
     in
     record { image = t.image; status = t.status }
@@ -32,10 +32,10 @@ returns c =
     let a = c.args in
     let b = a.image.now in
     let v = c.read-got.result in
-    let t = set-done b (λ (s : Set). cancel_of s (handle_from a.handle)) v c.read-got.ensures c.cancel-a.result
+    let t = set_done b (λ (s : Set). cancel_of s (handle_from a.handle)) v c.read-got.ensures c.cancel-a.result
     c.in_default.is
     (c.cancel-a.ensures ∙ ap (λ (x : Handle). cancel_of v.set x) c.handle_from.ensures)
-    (after-written b v (record { small = λ j. let f : Fits w8 (get_or c.args.image.now j 0) = search rules in omega (arith, f.fits) }) c.read-got.ensures c.in_default.is (C.Cancel (handle_from a.handle)) [])
+    (after_written b v (record { small = λ j. let f : Fits w8 (get_or c.args.image.now j 0) = search rules in omega (arith, f.fits) }) c.read-got.ensures c.in_default.is (C.Cancel (handle_from a.handle)) [])
     c.ended.ensures
     in
     record { image = t.image; status = t.status }

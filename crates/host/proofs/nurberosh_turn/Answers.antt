@@ -11,13 +11,13 @@ use mir.Syntax.{w8}
 use Rattle.digits.specs.Digits.{Bytes}
 use Rattle.heap.specs.Capacity.{cap}
 use Rattle.host.proofs.Readings.{not_ran}
-use Rattle.host.proofs.Turned.{turn-refused, quiet, ran_within, ran_room, ran}
+use Rattle.host.proofs.Turned.{turn_refused, quiet, ran_within, ran_room, ran}
 use Rattle.host.proofs.nurberosh_turn.Goals as goal
 
 pub returns-in-Refused : goal.returns-in-Refused
 returns-in-Refused c =
     let a = c.args in
-    turn-refused a.image.now a.reading a.reports.now c.read-got.result c.read-got.ensures c.in-Refused.why c.in-Refused.is
+    turn_refused a.image.now a.reading a.reports.now c.read-got.result c.read-got.ensures c.in-Refused.why c.in-Refused.is
     c.status.ensures
 
 pub returns-in_default-y : goal.returns-in_default-y

@@ -9,7 +9,7 @@ use lib.Seq.{sets, take-suc}
 use Rattle.digits.specs.Digits.{digits}
 use Rattle.digits.specs.Rows.{rows, blocks}
 use Rattle.digits.proofs.Rows.{rows_more, rows_none}
-use Rattle.digits.proofs.Loops.{putting-none, putting-more, putting-all}
+use Rattle.digits.proofs.Loops.{putting_none, putting_more, putting_all}
 use Rattle.host.specs.Numbers.{word_bytes}
 use Rattle.host.proofs.put_words.Goals as goal
 
@@ -22,12 +22,12 @@ rows_take l (suc n) h =
 pub loop-i-init : goal.loop-i-init
 loop-i-init c =
     let a = c.args in
-    putting-none (digits 8) (λ j. get_or a.list.now j 0) a.n 8 a.out.now 0
+    putting_none (digits 8) (λ j. get_or a.list.now j 0) a.n 8 a.out.now 0
 
 pub loop-i-preserved : goal.loop-i-preserved
 loop-i-preserved c =
     let xs = c.args.list.now in
-    putting-more (digits 8) (λ j. get_or xs j 0) c.args.n 8 (get_or xs c.loop-i.i 0) c.loop-i.invariant
+    putting_more (digits 8) (λ j. get_or xs j 0) c.args.n 8 (get_or xs c.loop-i.i 0) c.loop-i.invariant
     c.loop-i-test.true refl c.put-next.ensures c.put-next.auto.out
 
 pub returns : goal.returns
@@ -35,5 +35,5 @@ unfolding word_bytes
 returns c =
     let a = c.args in
     let xs = a.list.now in
-    (putting-all (digits 8) (λ j. get_or xs j 0) a.n 8 c.loop-i.invariant c.loop-i-test.false).written
+    (putting_all (digits 8) (λ j. get_or xs j 0) a.n 8 c.loop-i.invariant c.loop-i-test.false).written
     ∙ ap (λ (t : List ℕ). sets a.out.now 0 (blocks (digits 8) t)) (rows_take xs a.n c.requires.n_in_bounds)

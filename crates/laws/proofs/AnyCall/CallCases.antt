@@ -33,9 +33,9 @@ pub record LetIn (s : Set) : Type 0 where
 
 module _ {S : Type 0} (P : Outcome S Value → Type 0) (s : Set) (k : S) (no : (a : Answer Value) → is_accepted a ≡ false → P (kept k a)) where
   -- behind the test of soundness
-  pub sound-by : (o : Outcome S Value) → (sound_of s ≡ true → P o) → P (guarded s k o)
+  pub sound_by : (o : Outcome S Value) → (sound_of s ≡ true → P o) → P (guarded s k o)
   unfolding guarded sound_of
-  sound-by o f = go (fault_of s) f
+  sound_by o f = go (fault_of s) f
     where
       go : (x : Option Fault) → (clear x ≡ true → P o) → P (judged x o (λ y. refusing k (Unsound y)))
       go none f = f refl
@@ -43,7 +43,7 @@ module _ {S : Type 0} (P : Outcome S Value → Type 0) (s : Set) (k : S) (no : (
 
   -- behind both tests
   open_by : (o : Outcome S Value) → (LetIn s → P o) → P (guarded s k (opened s k o))
-  open_by o f = sound-by (opened s k o) (λ q. go s.closed refl q)
+  open_by o f = sound_by (opened s k o) (λ q. go s.closed refl q)
     where
       go : (b : Bool) → s.closed ≡ b → sound_of s ≡ true → P (cond b (refusing k Closed) o)
       go true e q = no _ refl
@@ -51,17 +51,17 @@ module _ {S : Type 0} (P : Outcome S Value → Type 0) (s : Set) (k : S) (no : (
 
 module _ (P : Outcome Set Value → Type 0) (s : Set) (no : (a : Answer Value) → is_accepted a ≡ false → P (kept s a)) where
   -- where a live handle is asked for
-  pub alive-by : (h : Handle) (f : Timing → Outcome Set Value) → ((t : Timing) → live_at s h ≡ some t → P (f t)) → P (alive s (live_at s h) f)
-  alive-by h f g = go (live_at s h) refl
+  pub alive_by : (h : Handle) (f : Timing → Outcome Set Value) → ((t : Timing) → live_at s h ≡ some t → P (f t)) → P (alive s (live_at s h) f)
+  alive_by h f g = go (live_at s h) refl
     where
       go : (x : Option Timing) → live_at s h ≡ x → P (alive s x f)
       go none e = no _ refl
       go (some t) e = g t e
 
   -- an add takes the lowest free place
-  pub add-by : (d : ℕ) → (LetIn s → (p : ℕ) → lowest_free s ≡ some p → P (gives (touched_of s p (Live 0 d)) (Calls.handle (handle_at s p)))) → P (Calls.add_of s d)
+  pub add_by : (d : ℕ) → (LetIn s → (p : ℕ) → lowest_free s ≡ some p → P (gives (touched_of s p (Live 0 d)) (Calls.handle (handle_at s p)))) → P (Calls.add_of s d)
   unfolding Calls.add_of
-  add-by d f = open_by P s s no (added_at s d (lowest_free s)) (λ a. go (lowest_free s) (f a))
+  add_by d f = open_by P s s no (added_at s d (lowest_free s)) (λ a. go (lowest_free s) (f a))
     where
       go : (x : Option ℕ) → ((p : ℕ) → x ≡ some p → P (gives (touched_of s p (Live 0 d)) (Calls.handle (handle_at s p)))) → P (added_at s d x)
       go none f = no _ refl
@@ -70,41 +70,41 @@ module _ (P : Outcome Set Value → Type 0) (s : Set) (no : (a : Answer Value) �
   -- a reset, of a live timer
   pub reset_by : (h : Handle) (d : ℕ) → (LetIn s → (t : Timing) → live_at s h ≡ some t → P (gives (reset_to s h d t) Calls.nothing)) → P (Calls.reset_of s h d)
   unfolding Calls.reset_of
-  reset_by h d f = open_by P s s no _ (λ a. alive-by h _ (f a))
+  reset_by h d f = open_by P s s no _ (λ a. alive_by h _ (f a))
 
   -- a cancel, of a live timer
-  pub cancel-by : (h : Handle)
+  pub cancel_by : (h : Handle)
       → (LetIn s → (t : Timing) → live_at s h ≡ some t → P (gives (touched_of s h.place.0 (Cancelled t.word)) Calls.nothing)) → P (Calls.cancel_of s h)
   unfolding Calls.cancel_of
-  cancel-by h f = open_by P s s no _ (λ a. alive-by h _ (f a))
+  cancel_by h f = open_by P s s no _ (λ a. alive_by h _ (f a))
 
   -- a drain
-  pub drain-by : (LetIn s → P (gives (drained_of s) Calls.nothing)) → P (Calls.drain_of s)
+  pub drain_by : (LetIn s → P (gives (drained_of s) Calls.nothing)) → P (Calls.drain_of s)
   unfolding Calls.drain_of
-  drain-by f = open_by P s s no _ f
+  drain_by f = open_by P s s no _ f
 
   -- a close
-  pub close-by : (LetIn s → P (gives (closed_of s) Calls.nothing)) → P (Calls.close_of s)
+  pub close_by : (LetIn s → P (gives (closed_of s) Calls.nothing)) → P (Calls.close_of s)
   unfolding Calls.close_of
-  close-by f = open_by P s s no _ f
+  close_by f = open_by P s s no _ f
 
   -- a next wake keeps the set
-  pub wake-by : ((v : Value) → P (gives s v)) → P (Calls.next_wake_of s)
+  pub wake_by_lem : ((v : Value) → P (gives s v)) → P (Calls.next_wake_of s)
   unfolding Calls.next_wake_of
-  wake-by f = sound-by P s s no _ (λ _. f _)
+  wake_by_lem f = sound_by P s s no _ (λ _. f _)
 
   -- and so does a poll
-  pub poll-by : (h : Handle) → ((v : Value) → P (gives s v)) → P (Calls.poll_of s h)
+  pub poll_by_lem : (h : Handle) → ((v : Value) → P (gives s v)) → P (Calls.poll_of s h)
   unfolding Calls.poll_of
-  poll-by h f = sound-by P s s no _ (λ _. alive-by h _ (λ t e. f _))
+  poll_by_lem h f = sound_by P s s no _ (λ _. alive_by h _ (λ t e. f _))
 
   -- a tick, of a live timer that has fired, where the interval's rule has a next deadline
-  pub tick-by : (h : Handle) (p : Policy) (period N : ℕ)
+  pub tick_by : (h : Handle) (p : Policy) (period N : ℕ)
       → (LetIn s → (t : Timing) → live_at s h ≡ some t → Word.fired_in t.word ≡ true → (d : ℕ) → tick_of p t.due period N ≡ accepted d
       → P (gives (reset_to s h d t) (Calls.time t.due)))
       → P (Calls.tick_at s h p period N)
   unfolding Calls.tick_at
-  tick-by h p period N f = open_by P s s no _ (λ a. alive-by h _ (λ t e. go t (Word.fired_in t.word) (tick_of p t.due period N) (f a t e)))
+  tick_by h p period N f = open_by P s s no _ (λ a. alive_by h _ (λ t e. go t (Word.fired_in t.word) (tick_of p t.due period N) (f a t e)))
     where
       go : (t : Timing) (b : Bool) (x : Answer ℕ) → (b ≡ true → (d : ℕ) → x ≡ accepted d → P (gives (reset_to s h d t) (Calls.time t.due)))
           → P (cond b (ticked_by s h t x) (refusing s NotFired))
@@ -114,11 +114,11 @@ module _ (P : Outcome Set Value → Type 0) (s : Set) (no : (a : Answer Value) �
       go t false x f = no _ refl
 
   -- an interval reset, of a live timer, where the rule has a deadline
-  pub restart-by : (h : Handle) (period N : ℕ)
+  pub restart_by : (h : Handle) (period N : ℕ)
       → (LetIn s → (t : Timing) → live_at s h ≡ some t → (d : ℕ) → restart_of period N ≡ accepted d → P (gives (reset_to s h d t) Calls.nothing))
       → P (Calls.restart_at s h period N)
   unfolding Calls.restart_at
-  restart-by h period N f = open_by P s s no _ (λ a. alive-by h _ (λ t e. go t (restart_of period N) (f a t e)))
+  restart_by h period N f = open_by P s s no _ (λ a. alive_by h _ (λ t e. go t (restart_of period N) (f a t e)))
     where
       go : (t : Timing) (x : Answer ℕ) → ((d : ℕ) → x ≡ accepted d → P (gives (reset_to s h d t) Calls.nothing)) → P (restarted_by s h t x)
       go t (accepted d) f = f d refl
@@ -127,19 +127,19 @@ module _ (P : Outcome Set Value → Type 0) (s : Set) (no : (a : Answer Value) �
 
 module _ (P : Outcome Lent Value → Type 0) (s : Set) (l : List ℕ) (no : (a : Answer Value) → is_accepted a ≡ false → P (kept (lent s l) a)) where
   -- where room is asked for
-  roomy-by : (o : Outcome Lent Value) → (LetIn s → cap ≤ length l → P o) → P (guarded s (lent s l) (opened s (lent s l) (roomy s l o)))
-  roomy-by o f = open_by P s (lent s l) no (roomy s l o) (λ a. go (leb cap (length l)) (λ e. f a (leb-true cap (length l) e)))
+  roomy_by : (o : Outcome Lent Value) → (LetIn s → cap ≤ length l → P o) → P (guarded s (lent s l) (opened s (lent s l) (roomy s l o)))
+  roomy_by o f = open_by P s (lent s l) no (roomy s l o) (λ a. go (leb cap (length l)) (λ e. f a (leb-true cap (length l) e)))
     where
       go : (b : Bool) → (b ≡ true → P o) → P (cond b o (refusing (lent s l) ShortList))
       go true f = f refl
       go false f = no _ refl
 
   -- an advance, with room in the lent list
-  pub advance-by : (N : ℕ) → (LetIn s → cap ≤ length l → P (rang (advanced_of s N l))) → P (Calls.advance_of s N l)
+  pub advance_by : (N : ℕ) → (LetIn s → cap ≤ length l → P (rang (advanced_of s N l))) → P (Calls.advance_of s N l)
   unfolding Calls.advance_of
-  advance-by N f = roomy-by (rang (advanced_of s N l)) f
+  advance_by N f = roomy_by (rang (advanced_of s N l)) f
 
   -- a turn, with room in the lent list
   pub turn_by : (N : ℕ) → (LetIn s → cap ≤ length l → P (rang (advanced_of (drained_of s) N l))) → P (Calls.turn_of s N l)
   unfolding Calls.turn_of
-  turn_by N f = roomy-by (rang (advanced_of (drained_of s) N l)) f
+  turn_by N f = roomy_by (rang (advanced_of (drained_of s) N l)) f

@@ -54,85 +54,85 @@ guarded_keeps {S} Q s k now o f = go (fault_of s) s.closed refl
     go (some y) b e = now
 
 module _ (D : ℕ → Type 0) (times : (d : ℕ) → IsTime d → D d) (P : Set → Type 0) (s : Set) (k : Kept D P s) where
-  alive-keeps : (h : Handle) (f : Timing → Outcome Set Value) → ((t : Timing) → live_at s h ≡ some t → P (f t).state)
+  alive_keeps : (h : Handle) (f : Timing → Outcome Set Value) → ((t : Timing) → live_at s h ≡ some t → P (f t).state)
       → P (alive s (live_at s h) f).state
-  alive-keeps h f g = go (live_at s h) refl
+  alive_keeps h f g = go (live_at s h) refl
     where
       go : (x : Option Timing) → live_at s h ≡ x → P (alive s x f).state
       go none e = k.now
       go (some t) e = g t e
 
   -- a call on a timer that is live
-  live-keeps : (h : Handle) (f : Timing → Outcome Set Value) → ((t : Timing) → s.closed ≡ false → live_at s h ≡ some t → P (f t).state)
+  live_keeps : (h : Handle) (f : Timing → Outcome Set Value) → ((t : Timing) → s.closed ≡ false → live_at s h ≡ some t → P (f t).state)
       → P (guarded s s (opened s s (alive s (live_at s h) f))).state
-  live-keeps h f g = guarded_keeps P s s k.now (alive s (live_at s h) f) (λ c. alive-keeps h f (λ t e. g t c e))
+  live_keeps h f g = guarded_keeps P s s k.now (alive s (live_at s h) f) (λ c. alive_keeps h f (λ t e. g t c e))
 
-  added-keeps : (d : ℕ) → D d → s.closed ≡ false → (x : Option ℕ) → lowest_free s ≡ x → P (added_at s d x).state
-  added-keeps d y c none e = k.now
-  added-keeps d y c (some p) e = k.adds p d y c e
+  added_keeps : (d : ℕ) → D d → s.closed ≡ false → (x : Option ℕ) → lowest_free s ≡ x → P (added_at s d x).state
+  added_keeps d y c none e = k.now
+  added_keeps d y c (some p) e = k.adds p d y c e
 
   -- add
-  add-keeps-it : (d : ℕ) → D d → P (add_of s d).state
+  add_keeps_it : (d : ℕ) → D d → P (add_of s d).state
   unfolding add_of
-  add-keeps-it d y = guarded_keeps P s s k.now (added_at s d (lowest_free s)) (λ c. added-keeps d y c (lowest_free s) refl)
+  add_keeps_it d y = guarded_keeps P s s k.now (added_at s d (lowest_free s)) (λ c. added_keeps d y c (lowest_free s) refl)
 
   -- reset
-  reset-keeps-it : (h : Handle) (d : ℕ) → D d → P (reset_of s h d).state
+  reset_keeps_it : (h : Handle) (d : ℕ) → D d → P (reset_of s h d).state
   unfolding reset_of
-  reset-keeps-it h d y = live-keeps h (λ t. gives (reset_to s h d t) nothing) (λ t c e. k.resets h t d y c e)
+  reset_keeps_it h d y = live_keeps h (λ t. gives (reset_to s h d t) nothing) (λ t c e. k.resets h t d y c e)
 
   -- cancel
-  cancel-keeps-it : (h : Handle) → P (cancel_of s h).state
+  cancel_keeps_it : (h : Handle) → P (cancel_of s h).state
   unfolding cancel_of
-  cancel-keeps-it h = live-keeps h (λ t. gives (touched_of s h.place.0 (Cancelled t.word)) nothing) (λ t c e. k.cancels h t c e)
+  cancel_keeps_it h = live_keeps h (λ t. gives (touched_of s h.place.0 (Cancelled t.word)) nothing) (λ t c e. k.cancels h t c e)
 
   -- drain
-  drain-keeps-it : (s.closed ≡ false → P (drained_of s)) → P (drain_of s).state
+  drain_keeps_it : (s.closed ≡ false → P (drained_of s)) → P (drain_of s).state
   unfolding drain_of
-  drain-keeps-it f = guarded_keeps P s s k.now (gives (drained_of s) nothing) f
+  drain_keeps_it f = guarded_keeps P s s k.now (gives (drained_of s) nothing) f
 
-  ticked-keeps : (h : Handle) (t : Timing) → ((d : ℕ) → D d → P (reset_to s h d t)) → (b : Bool) (a : Answer ℕ) → Timed a
+  ticked_keeps : (h : Handle) (t : Timing) → ((d : ℕ) → D d → P (reset_to s h d t)) → (b : Bool) (a : Answer ℕ) → Timed a
       → P (cond b (ticked_by s h t a) (refusing s NotFired)).state
-  ticked-keeps h t f true (accepted d) y = f d (times d y)
-  ticked-keeps h t f true (refused n) y = k.now
-  ticked-keeps h t f true (unsound x) y = k.now
-  ticked-keeps h t f false a y = k.now
+  ticked_keeps h t f true (accepted d) y = f d (times d y)
+  ticked_keeps h t f true (refused n) y = k.now
+  ticked_keeps h t f true (unsound x) y = k.now
+  ticked_keeps h t f false a y = k.now
 
   -- tick
-  tick-keeps-it : (h : Handle) (p : Policy) (period N : ℕ) → P (tick_at s h p period N).state
+  tick_keeps_it : (h : Handle) (p : Policy) (period N : ℕ) → P (tick_at s h p period N).state
   unfolding tick_at
-  tick-keeps-it h p period N =
-      live-keeps h (ticked s h p period N)
-      (λ t c e. ticked-keeps h t (λ d y. k.resets h t d y c e) (Word.fired_in t.word) (tick_of p t.due period N) (tick_timed p t.due period N))
+  tick_keeps_it h p period N =
+      live_keeps h (ticked s h p period N)
+      (λ t c e. ticked_keeps h t (λ d y. k.resets h t d y c e) (Word.fired_in t.word) (tick_of p t.due period N) (tick_timed p t.due period N))
 
-  restarted-keeps : (h : Handle) (t : Timing) → ((d : ℕ) → D d → P (reset_to s h d t)) → (a : Answer ℕ) → Timed a → P (restarted_by s h t a).state
-  restarted-keeps h t f (accepted d) y = f d (times d y)
-  restarted-keeps h t f (refused n) y = k.now
-  restarted-keeps h t f (unsound x) y = k.now
+  restarted_keeps : (h : Handle) (t : Timing) → ((d : ℕ) → D d → P (reset_to s h d t)) → (a : Answer ℕ) → Timed a → P (restarted_by s h t a).state
+  restarted_keeps h t f (accepted d) y = f d (times d y)
+  restarted_keeps h t f (refused n) y = k.now
+  restarted_keeps h t f (unsound x) y = k.now
 
   -- interval reset
-  restart-keeps-it : (h : Handle) (period N : ℕ) → P (restart_at s h period N).state
+  restart_keeps_it : (h : Handle) (period N : ℕ) → P (restart_at s h period N).state
   unfolding restart_at
-  restart-keeps-it h period N =
-      live-keeps h (λ t. restarted_by s h t (restart_of period N))
-      (λ t c e. restarted-keeps h t (λ d y. k.resets h t d y c e) (restart_of period N) (restart_timed period N))
+  restart_keeps_it h period N =
+      live_keeps h (λ t. restarted_by s h t (restart_of period N))
+      (λ t c e. restarted_keeps h t (λ d y. k.resets h t d y c e) (restart_of period N) (restart_timed period N))
 
   -- next wake
-  wake-keeps-it : P (next_wake_of s).state
+  wake_keeps_it : P (next_wake_of s).state
   unfolding next_wake_of guarded
-  wake-keeps-it = go (fault_of s)
+  wake_keeps_it = go (fault_of s)
     where
       go : (x : Option Fault) → P (judged x (gives s (wake (wake_by (peek_sound s.heap)))) (λ y. refusing s (Unsound y))).state
       go none = k.now
       go (some y) = k.now
 
   -- poll
-  poll-keeps-it : (h : Handle) → P (poll_of s h).state
+  poll_keeps_it : (h : Handle) → P (poll_of s h).state
   unfolding poll_of guarded
-  poll-keeps-it h = go (fault_of s)
+  poll_keeps_it h = go (fault_of s)
     where
       go : (x : Option Fault) → P (judged x (alive s (live_at s h) (λ t. gives s (polled (poll_by (Word.poll_of t.word))))) (λ y. refusing s (Unsound y))).state
-      go none = alive-keeps h (λ t. gives s (polled (poll_by (Word.poll_of t.word)))) (λ t e. k.now)
+      go none = alive_keeps h (λ t. gives s (polled (poll_by (Word.poll_of t.word)))) (λ t e. k.now)
       go (some y) = k.now
 
   module _ (on : KeptOn P s) where
@@ -165,17 +165,17 @@ module _ (D : ℕ → Type 0) (times : (d : ℕ) → IsTime d → D d) (P : Set 
     -- every call that is given such a deadline, or none
     pub step_keeps_of : (c : Call) → Given D c → (l : List ℕ) → P (step s c l).state.set
     unfolding step
-    step_keeps_of (C.Add d) g l = add-keeps-it d (g d refl)
-    step_keeps_of (C.Reset h d) g l = reset-keeps-it h d (g d refl)
-    step_keeps_of (C.Cancel h) g l = cancel-keeps-it h
-    step_keeps_of C.Drain g l = drain-keeps-it on.drains
+    step_keeps_of (C.Add d) g l = add_keeps_it d (g d refl)
+    step_keeps_of (C.Reset h d) g l = reset_keeps_it h d (g d refl)
+    step_keeps_of (C.Cancel h) g l = cancel_keeps_it h
+    step_keeps_of C.Drain g l = drain_keeps_it on.drains
     step_keeps_of (C.Advance N) g l = advance_keeps_it N l
     step_keeps_of (C.Turn N) g l = turn_keeps_it N l
-    step_keeps_of C.NextWake g l = wake-keeps-it
-    step_keeps_of (C.Poll h) g l = poll-keeps-it h
+    step_keeps_of C.NextWake g l = wake_keeps_it
+    step_keeps_of (C.Poll h) g l = poll_keeps_it h
     step_keeps_of C.Close g l = close_keeps_it
-    step_keeps_of (C.Tick h p period N) g l = tick-keeps-it h p period N
-    step_keeps_of (C.Restart h period N) g l = restart-keeps-it h period N
+    step_keeps_of (C.Tick h p period N) g l = tick_keeps_it h p period N
+    step_keeps_of (C.Restart h period N) g l = restart_keeps_it h period N
 
 -- a deadline of any kind
 abbrev pub Any : ℕ → Type 0

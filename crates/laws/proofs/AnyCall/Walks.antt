@@ -10,15 +10,15 @@ use Rattle.moves.specs.Rules.{settled_of, list_turn, drain_from, drained_of, Rin
 
 module _ (P : Set → Type 0) where
   -- a turn of a walk along the list
-  turn-walk : (s : Set) (f : First) (more : ℕ → Set) → P s → ((p : ℕ) → P (more p)) → P (list_turn s f more)
-  turn-walk s First.Nothing more x y = x
-  turn-walk s (First.At p) more x y = y p.0
+  turn_walk : (s : Set) (f : First) (more : ℕ → Set) → P s → ((p : ℕ) → P (more p)) → P (list_turn s f more)
+  turn_walk s First.Nothing more x y = x
+  turn_walk s (First.At p) more x y = y p.0
 
   module _ (settles : (s : Set) (p : ℕ) → P s → P (settled_of s p)) where
     drain_from_lem : (k : ℕ) (s : Set) → P s → P (drain_from k s)
     unfolding drain_from
     drain_from_lem zero s x = x
-    drain_from_lem (suc k) s x = turn-walk s s.first (λ p. drain_from k (settled_of s p)) x (λ p. drain_from_lem k (settled_of s p) (settles s p x))
+    drain_from_lem (suc k) s x = turn_walk s s.first (λ p. drain_from k (settled_of s p)) x (λ p. drain_from_lem k (settled_of s p) (settles s p x))
 
     -- a drain
     pub drain_walk : (s : Set) → P s → P (drained_of s)
@@ -43,7 +43,7 @@ module _ (P : Set → Type 0) where
     unlist_from_lem : (k : ℕ) (s : Set) → P s → P (unlist_from k s)
     unfolding unlist_from
     unlist_from_lem zero s x = x
-    unlist_from_lem (suc k) s x = turn-walk s s.first (λ p. unlist_from k (unlisted_of s p)) x (λ p. unlist_from_lem k (unlisted_of s p) (unlists s p x))
+    unlist_from_lem (suc k) s x = turn_walk s s.first (λ p. unlist_from k (unlisted_of s p)) x (λ p. unlist_from_lem k (unlisted_of s p) (unlists s p x))
 
     empty_from_lem : (k : ℕ) (s : Set) → P s → P (empty_from k s)
     unfolding empty_from

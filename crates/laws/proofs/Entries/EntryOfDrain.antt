@@ -23,11 +23,11 @@ use Rattle.moves.specs.Rules.{settled_of, list_turn, drain_from, drained_of}
 use Rattle.laws.specs.Words.{Words}
 use Rattle.laws.specs.EntryOf.{entry_of, waiting, Armed}
 use Rattle.laws.proofs.PlaceByPlace.Words.{settled_words}
-use Rattle.laws.proofs.Parts.OpenSet.{Open, sound-open}
+use Rattle.laws.proofs.Parts.OpenSet.{Open, sound_open}
 use Rattle.laws.proofs.Parts.ListChange.{waits_in}
-use Rattle.laws.proofs.Soundness.Settle.{first_in, first-waiting, settled-settles}
+use Rattle.laws.proofs.Soundness.Settle.{first_in, first_waiting, settled_settles}
 use Rattle.laws.proofs.Soundness.DrainSound.{empty_none}
-use Rattle.laws.proofs.Entries.EntryOfSettle.{settled-other, settled_live, settled_still, settled_entry_other, settled-armed}
+use Rattle.laws.proofs.Entries.EntryOfSettle.{settled_other, settled_live, settled_still, settled_entry_other, settled_armed}
 
 -- what the entry of x is in r, where in s the timer at x is live with the word w and the deadline d
 record EntryAfter (s r : Set) (x w d : ℕ) : Type 0 where
@@ -52,14 +52,14 @@ module _ (s : Set) (o : Open s) (words : Words s) (p : ℕ) (at : s.first ≡ Fi
         record {
           armed = λ _.
               subst (λ (y : Option Entry). Armed y d (generation_of w)) (sym (t.stays (settled_still s p o.timers_long b)))
-              (settled-armed s o words p at w d e);
-          stays = λ f. true_false (first-waiting s o words p at) f;
+              (settled_armed s o words p at w d e);
+          stays = λ f. true_false (first_waiting s o words p at) f;
         }
 
     -- another timer is after this turn what it was before
     other_drains : (x w d : ℕ) → x < cap → (x ≡ p → ⊥) → (timer_at s x).life ≡ Live w d → EntryAfter s r x w d
     other_drains x w d b n e =
-        let same = settled-other s p x n in
+        let same = settled_other s p x n in
         let t = rest x w d b (ap (λ (u : Timer). u.life) same ∙ e) in
         record {
           armed = λ f. t.armed (ap (λ (u : Timer). is_waiting u.waiting) same ∙ f);
@@ -86,19 +86,19 @@ drain_drains (suc k) s o words l = go s.first refl (λ r t v c. drain_drains k r
         → (x w d : ℕ) → x < cap → (timer_at s x).life ≡ Live w d → EntryAfter s (list_turn s f (λ p. drain_from k (settled_of s p))) x w d
     go First.Nothing e rest = λ x w d b _. none_drains s (empty_none s o e) x w d b
     go (First.At p) e rest =
-        let t = settled-settles s o words p.0 e in
+        let t = settled_settles s o words p.0 e in
         turn_drains s o words p.0 e (drain_from k (settled_of s p.0))
         (rest (settled_of s p.0) t.is_open (settled_words s p.0 words) (omega (arith, t.fewer)))
 
 module _ (s : Set) (sound : Sound s) (c : s.closed ≡ false) (words : Words s) (x w d : ℕ) (b : x < cap) (live : (timer_at s x).life ≡ Live w d) where
   -- both, of a drain
-  drained-drains : EntryAfter s (drained_of s) x w d
-  drained-drains = drain_drains cap s (sound-open s sound c) words (count_le (waits_at s) cap) x w d b live
+  drained_drains : EntryAfter s (drained_of s) x w d
+  drained_drains = drain_drains cap s (sound_open s sound c) words (count_le (waits_at s) cap) x w d b live
 
   -- after a drain a live timer that waited has an entry with its deadline and its generation
-  pub drained-armed : waiting s x ≡ true → Armed (entry_of (drained_of s) x) d (generation_of w)
-  drained-armed = drained-drains.armed
+  pub drained_armed : waiting s x ≡ true → Armed (entry_of (drained_of s) x) d (generation_of w)
+  drained_armed = drained_drains.armed
 
   -- one that did not wait has the entry that it had
-  pub drained-entry : waiting s x ≡ false → entry_of (drained_of s) x ≡ entry_of s x
-  drained-entry = drained-drains.stays
+  pub drained_entry : waiting s x ≡ false → entry_of (drained_of s) x ≡ entry_of s x
+  drained_entry = drained_drains.stays

@@ -9,7 +9,7 @@ use native.Mathlib.Omega.{arith}
 use lib.ListN.{length}
 use Rattle.theory.proofs.Update.{upd_other}
 use Rattle.theory.proofs.Tests.{none_some}
-use Rattle.theory.proofs.Stores.{sees-other, sees-here}
+use Rattle.theory.proofs.Stores.{sees_other, sees_here}
 use Rattle.refusals.specs.Answer.{Outcome}
 use Rattle.heap.specs.Capacity.{cap}
 use Rattle.heap.specs.declared.Slot.{Slot}
@@ -19,7 +19,7 @@ use Rattle.heap.specs.Lookup.{lookup}
 use Rattle.heap.specs.Calls.{push_sound}
 use Rattle.heap.specs.Slab.{Slab}
 use Rattle.heap.proofs.Slots.Slab.{sound_slab}
-use Rattle.heap.proofs.Slots.BySlot.{free-none, push_new, push_other, remove_found}
+use Rattle.heap.proofs.Slots.BySlot.{free_none, push_new, push_other, remove_found}
 use Rattle.word.specs.Rules.{generation_of}
 use Rattle.state.specs.declared.Life.{Life}
 use Rattle.state.specs.declared.Life.TheVariants.{Free, Live, Cancelled, Retired}
@@ -35,7 +35,7 @@ use Rattle.laws.proofs.Parts.OpenSlots.{stands_one, push_gives_lem}
 use Rattle.laws.proofs.Parts.Freed.{freed_waiting}
 use Rattle.laws.proofs.Parts.Change.{held_at}
 use Rattle.laws.proofs.Parts.OpenSet.{Open}
-use Rattle.laws.proofs.Soundness.Settle.{first_in, less, less-slots, less-room}
+use Rattle.laws.proofs.Soundness.Settle.{first_in, less, less_slots, less_room}
 
 -- THE TIMERS
 
@@ -45,15 +45,15 @@ module _ (s : Set) (p : ℕ) where
   after l = settled_by (with_first s (head_after (timer_at s p).waiting)) p (timer_at s p) l
 
   -- the other places keep their timers
-  pub settled-other : (x : ℕ) → (x ≡ p → ⊥) → timer_at (settled_of s p) x ≡ timer_at s x
+  pub settled_other : (x : ℕ) → (x ≡ p → ⊥) → timer_at (settled_of s p) x ≡ timer_at s x
   unfolding settled_of
-  settled-other x n = go (timer_at s p).life
+  settled_other x n = go (timer_at s p).life
     where
       go : (l : Life) → timer_at (after l) x ≡ timer_at s x
-      go Free = sym (sees-other (λ (t : Timer). t) no_timer s.timers p _ x n)
-      go (Live w d) = sym (sees-other (λ (t : Timer). t) no_timer s.timers p _ x n)
-      go (Cancelled w) = sym (sees-other (λ (t : Timer). t) no_timer s.timers p _ x n)
-      go Retired = sym (sees-other (λ (t : Timer). t) no_timer s.timers p _ x n)
+      go Free = sym (sees_other (λ (t : Timer). t) no_timer s.timers p _ x n)
+      go (Live w d) = sym (sees_other (λ (t : Timer). t) no_timer s.timers p _ x n)
+      go (Cancelled w) = sym (sees_other (λ (t : Timer). t) no_timer s.timers p _ x n)
+      go Retired = sym (sees_other (λ (t : Timer). t) no_timer s.timers p _ x n)
 
   module _ (long : length s.timers ≡ cap) (b : p < cap) where
     -- p is one of the set's places
@@ -63,7 +63,7 @@ module _ (s : Set) (p : ℕ) where
     -- the timer taken off the list stays live, if it is live
     pub settled_live : (w d : ℕ) → (timer_at s p).life ≡ Live w d → (timer_at (settled_of s p) p).life ≡ Live w d
     unfolding settled_of
-    settled_live w d e = rw e (sees-here (λ (t : Timer). t.life) no_timer s.timers p _ inside)
+    settled_live w d e = rw e (sees_here (λ (t : Timer). t.life) no_timer s.timers p _ inside)
 
     -- it waits no more
     pub settled_still : waiting (settled_of s p) p ≡ false
@@ -71,12 +71,12 @@ module _ (s : Set) (p : ℕ) where
     settled_still = go (timer_at s p).life
       where
         go : (l : Life) → waiting (after l) p ≡ false
-        go Free = sees-here (λ (t : Timer). is_waiting t.waiting) no_timer s.timers p _ inside
-        go (Live w d) = sees-here (λ (t : Timer). is_waiting t.waiting) no_timer s.timers p _ inside
+        go Free = sees_here (λ (t : Timer). is_waiting t.waiting) no_timer s.timers p _ inside
+        go (Live w d) = sees_here (λ (t : Timer). is_waiting t.waiting) no_timer s.timers p _ inside
         go (Cancelled w) =
-            sees-here (λ (t : Timer). is_waiting t.waiting) no_timer s.timers p (freed_of (timer_at s p).uses) inside
+            sees_here (λ (t : Timer). is_waiting t.waiting) no_timer s.timers p (freed_of (timer_at s p).uses) inside
             ∙ freed_waiting (timer_at s p).uses
-        go Retired = sees-here (λ (t : Timer). is_waiting t.waiting) no_timer s.timers p _ inside
+        go Retired = sees_here (λ (t : Timer). is_waiting t.waiting) no_timer s.timers p _ inside
 
 -- THE ENTRIES
 
@@ -86,8 +86,8 @@ module _ (s : Set) (o : Open s) (words : Words s) (p : ℕ) (at : s.first ≡ Fi
   left = less s o words p at
 
   -- its slots and entries fit
-  left-slab : Slab left
-  left-slab = sound_slab left (less-slots s o words p at).sound
+  left_slab : Slab left
+  left_slab = sound_slab left (less_slots s o words p at).sound
 
   module _ (x : ℕ) (b : x < cap) (n : x ≡ p → ⊥) where
     -- without the entry of p, another place has the entry that it had
@@ -109,16 +109,16 @@ module _ (s : Set) (o : Open s) (words : Words s) (p : ℕ) (at : s.first ≡ Fi
         go : (y : Held) → held_at s x ≡ y → held_entry (push_sound left a g (record { 0 = p })).state y ≡ held_entry left y
         go Held.Nothing e = refl
         go (Held.At t) e =
-            let it = (less-slots s o words p at).own x t b (upd_other ℕ_discrete (held_at s) p Held.Nothing x n ∙ e) in
-            rw (push_gives_lem left a g p (less-room s o words p at))
-            (push_other left left-slab a g (record { 0 = p }) (less-room s o words p at) t.0
-            (λ k. none_some (free-none left left-slab) (ap (lookup left) (sym k) ∙ it.found)))
+            let it = (less_slots s o words p at).own x t b (upd_other ℕ_discrete (held_at s) p Held.Nothing x n ∙ e) in
+            rw (push_gives_lem left a g p (less_room s o words p at))
+            (push_other left left_slab a g (record { 0 = p }) (less_room s o words p at) t.0
+            (λ k. none_some (free_none left left_slab) (ap (lookup left) (sym k) ∙ it.found)))
 
     -- the other places keep their entries
     pub settled_entry_other : entry_of (settled_of s p) x ≡ entry_of s x
     unfolding settled_of
     settled_entry_other =
-        ap (λ (t : Timer). held_entry (settled_of s p).heap t.held) (settled-other s p x n) ∙ go (timer_at s p).life
+        ap (λ (t : Timer). held_entry (settled_of s p).heap t.held) (settled_other s p x n) ∙ go (timer_at s p).life
       where
         go : (l : Life) → held_entry (after s p l).heap (held_at s x) ≡ entry_of s x
         go Free = refl
@@ -127,15 +127,15 @@ module _ (s : Set) (o : Open s) (words : Words s) (p : ℕ) (at : s.first ≡ Fi
         go Retired = refl
 
   -- the timer taken off the list, if it is live, has an entry with its deadline and its generation
-  pub settled-armed : (w d : ℕ) → (timer_at s p).life ≡ Live w d → Armed (entry_of (settled_of s p) p) d (generation_of w)
+  pub settled_armed : (w d : ℕ) → (timer_at s p).life ≡ Live w d → Armed (entry_of (settled_of s p) p) d (generation_of w)
   unfolding settled_of
-  settled-armed w d e = rw e (record {
+  settled_armed w d e = rw e (record {
     it = new_entry left d (generation_of w) (record { 0 = p });
     found =
-        ap (held_entry _) (sees-here (λ (t : Timer). t.held) no_timer s.timers p _ (inside s p o.timers_long (first_in s o words p at)))
+        ap (held_entry _) (sees_here (λ (t : Timer). t.held) no_timer s.timers p _ (inside s p o.timers_long (first_in s o words p at)))
         ∙ ap (λ (r : Outcome Heap (Slot × ℕ)). held_entry r.state (held_by r.answer))
-        (push_gives_lem left d (generation_of w) p (less-room s o words p at))
-        ∙ push_new left left-slab d (generation_of w) (record { 0 = p }) (less-room s o words p at);
+        (push_gives_lem left d (generation_of w) p (less_room s o words p at))
+        ∙ push_new left left_slab d (generation_of w) (record { 0 = p }) (less_room s o words p at);
     same_at = refl;
     same_generation = refl;
   })

@@ -23,9 +23,9 @@ use Rattle.laws.proofs.PlaceByPlace.Places.{Each}
 use Rattle.laws.proofs.Handles.ByHandle.{handle_at}
 use Rattle.laws.proofs.Handles.Past.{Later, later_order, added_later, touched_later, drained_later, advanced_later, closed_later}
 use Rattle.laws.proofs.Handles.PastLaws.{past_dead, live_given, given_dead, added_new, cancelled_past}
-use Rattle.laws.proofs.AnyCall.CallCases.{add-by, cancel-by}
+use Rattle.laws.proofs.AnyCall.CallCases.{add_by, cancel_by}
 use Rattle.laws.proofs.AnyCall.CallsKeep.{step_keeps_it}
-use Rattle.laws.proofs.Handles.ByHandleCalls.{add-lives}
+use Rattle.laws.proofs.Handles.ByHandleCalls.{add_lives}
 
 -- ONE CALL
 
@@ -47,8 +47,8 @@ step_later s =
     })
 
 -- use numbers never fall
-pub uses-rise : (s : Set) (c : Call) (l : List ℕ) (p : ℕ) → (timer_at s p).uses ≤ (timer_at (stepped s c l) p).uses
-uses-rise s c l p = (step_later s c l p).rises
+pub uses_rise : (s : Set) (c : Call) (l : List ℕ) (p : ℕ) → (timer_at s p).uses ≤ (timer_at (stepped s c l) p).uses
+uses_rise s c l p = (step_later s c l p).rises
 
 -- a handle that was given out is so after any call
 given_stays : (s : Set) (c : Call) (l : List ℕ) (h : Handle) → Given s h → Given (stepped s c l) h
@@ -60,19 +60,19 @@ past_stays s c l h = (step_later s c l h.place.0).over h.uses
 
 module _ (s : Set) where
   -- an add's handle was not given out before
-  add-new : (d : ℕ) (h : Handle) → (add_of s d).answer ≡ accepted (handle h) → Given s h → ⊥
-  add-new d h =
-      add-by (λ o. o.answer ≡ accepted (handle h) → Given s h → ⊥) s (λ m r e. never r e) d
+  add_new : (d : ℕ) (h : Handle) → (add_of s d).answer ≡ accepted (handle h) → Given s h → ⊥
+  add_new d h =
+      add_by (λ o. o.answer ≡ accepted (handle h) → Given s h → ⊥) s (λ m r e. never r e) d
       (λ _ p f e g. let q : handle_at s p ≡ h = cc in added_new s p f (subst (Given s) (sym q) g))
 
   -- and is so afterwards
-  add-given : (d : ℕ) (h : Handle) → length s.timers ≡ cap → (add_of s d).answer ≡ accepted (handle h) → Given (add_of s d).state h
-  add-given d h n e = live_given (add_of s d).state h _ (add-lives s d h n e).1
+  add_given : (d : ℕ) (h : Handle) → length s.timers ≡ cap → (add_of s d).answer ≡ accepted (handle h) → Given (add_of s d).state h
+  add_given d h n e = live_given (add_of s d).state h _ (add_lives s d h n e).1
 
   -- a cancel's handle is past afterwards
-  cancel-past : (h : Handle) (v : Value) → length s.timers ≡ cap → (cancel_of s h).answer ≡ accepted v → Past (cancel_of s h).state h
-  cancel-past h v n =
-      cancel-by (λ o. o.answer ≡ accepted v → Past o.state h) s (λ m r e. never r e) h (λ _ t l _. cancelled_past s h t n l)
+  cancel_past : (h : Handle) (v : Value) → length s.timers ≡ cap → (cancel_of s h).answer ≡ accepted v → Past (cancel_of s h).state h
+  cancel_past h v n =
+      cancel_by (λ o. o.answer ≡ accepted v → Past o.state h) s (λ m r e. never r e) h (λ _ t l _. cancelled_past s h t n l)
 
 -- ANY NUMBER OF CALLS
 
@@ -89,7 +89,7 @@ after_past (c ∷ cs) s h g = after_past cs (stepped s c.0 c.1) h (past_stays s 
 -- a handle that was cancelled is dead after any calls
 pub cancelled_stays_dead : (s : Set) (h : Handle) (v : Value) → length s.timers ≡ cap → (cancel_of s h).answer ≡ accepted v
     → (cs : List (Call × List ℕ)) → live_at (after cs (cancel_of s h).state) h ≡ none
-cancelled_stays_dead s h v n e cs = past_dead (after cs (cancel_of s h).state) h (after_past cs (cancel_of s h).state h (cancel-past s h v n e))
+cancelled_stays_dead s h v n e cs = past_dead (after cs (cancel_of s h).state) h (after_past cs (cancel_of s h).state h (cancel_past s h v n e))
 
 -- a handle that was given out and is dead is dead after any calls
 pub dead_stays_dead : (s : Set) (h : Handle) → h.place.0 < cap → Given s h → live_at s h ≡ none
@@ -99,4 +99,4 @@ dead_stays_dead s h b g e cs = past_dead (after cs s) h (after_past cs s h (give
 -- an add never answers the handle that an earlier one answered
 pub given_once : (s : Set) (d : ℕ) (h : Handle) → length s.timers ≡ cap → (add_of s d).answer ≡ accepted (handle h)
     → (cs : List (Call × List ℕ)) (c : ℕ) → (add_of (after cs (add_of s d).state) c).answer ≡ accepted (handle h) → ⊥
-given_once s d h n e cs c f = add-new (after cs (add_of s d).state) c h f (after_given cs (add_of s d).state h (add-given s d h n e))
+given_once s d h n e cs c f = add_new (after cs (add_of s d).state) c h f (after_given cs (add_of s d).state h (add_given s d h n e))

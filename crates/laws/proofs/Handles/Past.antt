@@ -21,7 +21,7 @@ use Rattle.timers.specs.Calls.{Timing, live_at}
 use Rattle.laws.specs.Past.{is_over, is_taken, Reached}
 use Rattle.laws.proofs.AnyCall.Found.{lowest_free_lem}
 use Rattle.laws.proofs.Handles.Naming.{live_told}
-use Rattle.laws.proofs.PlaceByPlace.Places.{Order, Each, touched-each, drained_each, advanced_each, closed-each}
+use Rattle.laws.proofs.PlaceByPlace.Places.{Order, Each, touched_each, drained_each, advanced_each, closed_each}
 
 -- a timer's use number is no lower than it was, and what was given out or over is
 pub record Later (t r : Timer) : Type 0 where
@@ -87,13 +87,13 @@ marked_later t w = let k = marked_kind t.life in later_life t _ refl (λ e. k.0 
 -- an add
 pub added_later : (s : Set) (p d : ℕ) → lowest_free s ≡ some p → Each Later s (touched_of s p (Live 0 d))
 added_later s p d e =
-    touched-each Later later_order s p (Live 0 d)
+    touched_each Later later_order s p (Live 0 d)
     (λ w. later_life (timer_at s p) _ refl (λ _. refl) (λ q. true_false q (ap is_over (lowest_free_lem s p e))))
 
 -- a touch of a live timer that stays live or is cancelled
 pub touched_later : (s : Set) (h : Handle) (t : Timing) (l : Life) → is_free l ≡ false → live_at s h ≡ some t → Each Later s (touched_of s h.place.0 l)
 touched_later s h t l f e =
-    touched-each Later later_order s h.place.0 l
+    touched_each Later later_order s h.place.0 l
     (λ w. later_life (timer_at s h.place.0) _ refl (λ _. ap not f) (λ q. true_false q (ap is_over (live_told s h t e).is_live)))
 
 -- a drain
@@ -106,4 +106,4 @@ advanced_later = advanced_each Later later_order rung_later
 
 -- a close
 pub closed_later : (s : Set) → Each Later s (closed_of s)
-closed_later = closed-each Later later_order marked_later
+closed_later = closed_each Later later_order marked_later

@@ -20,7 +20,7 @@ use Rattle.timers.specs.Calls.{Timing, timing_of, live_at}
 use Rattle.laws.specs.Past.{is_over, is_taken, Given, Past}
 use Rattle.laws.proofs.AnyCall.Found.{lowest_free_lem}
 use Rattle.laws.proofs.Handles.Naming.{names_same, names_other, live_in_range, live_none, live_told}
-use Rattle.laws.proofs.Handles.ByHandle.{handle_at, touched-here}
+use Rattle.laws.proofs.Handles.ByHandle.{handle_at, touched_here}
 
 over_dead : (l : Life) → is_over l ≡ true → timing_of l ≡ none
 over_dead Free e = refl
@@ -60,5 +60,5 @@ pub cancelled_past : (s : Set) (h : Handle) (t : Timing) → length s.timers ≡
     → Past (touched_of s h.place.0 (Cancelled t.word)) h
 cancelled_past s h t n e =
     let o = live_told s h t e in
-    let r = touched-here s h.place.0 (Cancelled t.word) n o.in_range in
+    let r = touched_here s h.place.0 (Cancelled t.word) n o.in_range in
     inr (sym (r.0 ∙ o.same_uses), ap is_over r.1)

@@ -8,7 +8,7 @@ use Prim.Native.Nat.{ℕ, ◌≤◌, ◌<◌}
 use native.Mathlib.Omega.{arith}
 use lib.IntN.{ℤ}
 use Rattle.theory.specs.Least.{through}
-use Rattle.theory.proofs.Least.{Found, Told, least-told}
+use Rattle.theory.proofs.Least.{Found, Told, least_told}
 use Rattle.theory.proofs.Tests.{none_some}
 use Rattle.refusals.specs.declared.fault.Fault.{Fault}
 use Rattle.refusals.specs.declared.Refusal.TheVariants.{Unsound, Closed, DeadHandle}
@@ -26,7 +26,7 @@ use Rattle.state.specs.declared.Handle.{Handle}
 use Rattle.state.specs.State.{timer_at}
 use Rattle.state.specs.Faults.{fault_of, sound_of}
 use Rattle.state.specs.Named.{Goes}
-use Rattle.state.proofs.Parts.{places-fine}
+use Rattle.state.proofs.Parts.{places_fine}
 use Rattle.timers.specs.Calls.{judged, refusing, polled, Timing, timing_of, live_at, alive, living, guarded, door_of, poll_by, poll_of, gives}
 use Rattle.timers.specs.Left.{left_at, time_left_by, time_left_of, pending_in, pending_at, or_none, least_by, least_left_of, soonest_of}
 use Rattle.timers.proofs.Guarding.{sound_none}
@@ -101,7 +101,7 @@ place_pending s ok c p d l e = go (timer_at s p).life refl e
     -- in an open set that passes its test a live timer has no invalid mark
     live : (w : ℕ) → (timer_at s p).life ≡ Live w d → fired_in w ≡ false → Counted s p d
     live w q u =
-        let i : invalid_in w ≡ false = subst (Goes s.closed (timer_at s p)) q (places-fine s ok p l).goes c in
+        let i : invalid_in w ≡ false = subst (Goes s.closed (timer_at s p)) q (places_fine s ok p l).goes c in
         let f : live_at s h ≡ some (record { word = w; due = d }) =
         live_in_range s h l ∙ names_same (timer_at s p) (timer_at s p).uses refl ∙ ap timing_of q in
         let z : poll_by (Word.poll_of w) ≡ 0 = rw (u, i) refl in
@@ -119,25 +119,25 @@ place_pending s ok c p d l e = go (timer_at s p).life refl e
 
 module _ (s : Set) (N : ℕ) where
   -- a closed set refuses both with 2
-  pub least-closed : sound_of s ≡ true → s.closed ≡ true → least_left_of s N ≡ refuse Closed
+  pub least_closed : sound_of s ≡ true → s.closed ≡ true → least_left_of s N ≡ refuse Closed
   unfolding least_left_of
-  least-closed p q = go (fault_of s) s.closed _ (sound_none s p) q
+  least_closed p q = go (fault_of s) s.closed _ (sound_none s p) q
     where
       go : (b : Option Fault) (c : Bool) (a : Answer (Option ℤ)) → b ≡ none → c ≡ true → judged b (cond c (refuse Closed) a) (λ x. refuse (Unsound x)) ≡ refuse Closed
       go b c a p q = rw (p, q)
 
-  pub left-closed : (h : Handle) → sound_of s ≡ true → s.closed ≡ true → time_left_of s h N ≡ refuse Closed
+  pub left_closed : (h : Handle) → sound_of s ≡ true → s.closed ≡ true → time_left_of s h N ≡ refuse Closed
   unfolding time_left_of door_of
-  left-closed h p q = go (fault_of s) s.closed _ (sound_none s p) q
+  left_closed h p q = go (fault_of s) s.closed _ (sound_none s p) q
     where
       go : (b : Option Fault) (c : Bool) (a : Answer Timing) → b ≡ none → c ≡ true
           → time_left_by N (judged b (cond c (refuse Closed) a) (λ x. refuse (Unsound x))) ≡ refuse Closed
       go b c a p q = rw (p, q)
 
   -- of a live handle the time left is the difference from its deadline
-  pub left-of : (h : Handle) (t : Timing) → sound_of s ≡ true → s.closed ≡ false → live_at s h ≡ some t → time_left_of s h N ≡ difference_of t.due N
+  pub left_of : (h : Handle) (t : Timing) → sound_of s ≡ true → s.closed ≡ false → live_at s h ≡ some t → time_left_of s h N ≡ difference_of t.due N
   unfolding time_left_of door_of
-  left-of h t p q e = go (fault_of s) s.closed (live_at s h) (sound_none s p) q e
+  left_of h t p q e = go (fault_of s) s.closed (live_at s h) (sound_none s p) q e
     where
       go : (b : Option Fault) (c : Bool) (o : Option Timing) → b ≡ none → c ≡ false → o ≡ some t
           → time_left_by N (judged b (cond c (refuse Closed) (living o)) (λ x. refuse (Unsound x))) ≡ difference_of t.due N
@@ -147,7 +147,7 @@ module _ (s : Set) (N : ℕ) where
 soonest_is : (s : Set) → sound_of s ≡ true → s.closed ≡ false → (h : Handle) (t : Timing) → live_at s h ≡ some t → fired_in t.word ≡ false
     → ((k : Handle) (u : Timing) → Pending s k → live_at s k ≡ some u → t.due ≤ u.due) → soonest_of s ≡ some t.due
 unfolding soonest_of
-soonest_is s ok c h t e u least = go (soonest_of s) (least-told (pending_at s) cap)
+soonest_is s ok c h t e u least = go (soonest_of s) (least_told (pending_at s) cap)
   where
     mine : (h.place.0 < cap) × (pending_at s h.place.0 ≡ some t.due)
     mine = pending_place s h t e u
@@ -175,17 +175,17 @@ least_agrees s N h f = go s.closed refl
     unfired = ap (λ (t : Timing). fired_in t.word) (sym same) ∙ k.unfired
 
     go : (b : Bool) → s.closed ≡ b → least_left_of s N ≡ or_none (time_left_of s h N)
-    go true c = least-closed s N k.sound c ∙ sym (ap or_none (left-closed s N h k.sound c))
+    go true c = least_closed s N k.sound c ∙ sym (ap or_none (left_closed s N h k.sound c))
     go false c =
         least_open s N (k.sound, c)
         ∙ ap (λ (o : Option ℕ). least_by (through (left_at N) o)) (soonest_is s k.sound c h f.timing f.found unfired f.least)
-        ∙ sym (ap or_none (left-of s N h f.timing k.sound c f.found))
+        ∙ sym (ap or_none (left_of s N h f.timing k.sound c f.found))
 
 -- none where no handle is pending, in a set that is sound and open
 pub none_pending : (s : Set) (N : ℕ) → sound_of s ≡ true → s.closed ≡ false → ((h : Handle) → ¬ Pending s h) → least_left_of s N ≡ accepted none
 unfolding soonest_of
 none_pending s N ok c nobody =
-    least_open s N (ok, c) ∙ ap (λ (o : Option ℕ). least_by (through (left_at N) o)) (go (soonest_of s) (least-told (pending_at s) cap))
+    least_open s N (ok, c) ∙ ap (λ (o : Option ℕ). least_by (through (left_at N) o)) (go (soonest_of s) (least_told (pending_at s) cap))
   where
     go : (o : Option ℕ) → Told (pending_at s) cap o → o ≡ none
     go none k = refl
@@ -212,13 +212,13 @@ pending_none s N e h k = go s.closed refl
         shown (unsound x) q = never refl q
 
     go : (b : Bool) → s.closed ≡ b → ⊥
-    go true c = not_both Closed (sym e ∙ least-closed s N t.sound c)
-    go false c = by (soonest_of s) (least-told (pending_at s) cap) (sym (least_open s N (t.sound, c)) ∙ e)
+    go true c = not_both Closed (sym e ∙ least_closed s N t.sound c)
+    go false c = by (soonest_of s) (least_told (pending_at s) cap) (sym (least_open s N (t.sound, c)) ∙ e)
 
 -- where a handle is pending, one is foremost
 pub foremost : (s : Set) → sound_of s ≡ true → s.closed ≡ false → (h : Handle) → Pending s h → (k : Handle) × Foremost s k
 unfolding soonest_of
-foremost s ok c h p = go (soonest_of s) (least-told (pending_at s) cap)
+foremost s ok c h p = go (soonest_of s) (least_told (pending_at s) cap)
   where
     t : PendingTold s h
     t = pending_told s h p

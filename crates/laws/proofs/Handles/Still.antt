@@ -60,11 +60,11 @@ marks_changes = record {
 
 module _ (W : ℕ → ℕ → Type 0) (c : Changes W) where
   -- what is the same is so still
-  pub still-same : (o r : Option Timing) → r ≡ o → Still W o r
-  still-same o r e = record { dead = λ n. e ∙ n; live = λ t l. (t.word, c.none_made t.word, e ∙ l) }
+  pub still_same : (o r : Option Timing) → r ≡ o → Still W o r
+  still_same o r e = record { dead = λ n. e ∙ n; live = λ t l. (t.word, c.none_made t.word, e ∙ l) }
 
-  still-then : (o r q : Option Timing) → Still W o r → Still W r q → Still W o q
-  still-then o r q a b = record {
+  still_then : (o r q : Option Timing) → Still W o r → Still W r q → Still W o q
+  still_then o r q a b = record {
     dead = λ n. b.dead (a.dead n);
     live = λ t l.
         let x = a.live t l in
@@ -73,17 +73,17 @@ module _ (W : ℕ → ℕ → Type 0) (c : Changes W) where
   }
 
   -- this is such a relation of timers as the walks ask for
-  pub stays-order : Order (StaysFor W)
+  pub stays_order : Order (StaysFor W)
   unfolding names
-  stays-order = record {
-    blind = λ t r l e u. still-same (names t u) (names r u) (cc);
-    then = λ x y z a b u. still-then (names x u) (names y u) (names z u) (a u) (b u);
+  stays_order = record {
+    blind = λ t r l e u. still_same (names t u) (names r u) (cc);
+    then = λ x y z a b u. still_then (names x u) (names y u) (names z u) (a u) (b u);
   }
 
   -- the use number stays, and a life of the same kind, with a word that is related
   stays_by : (b : Bool) (l m : Life) → ((w d : ℕ) → l ≡ Live w d → (v : ℕ) × (W w v) × (m ≡ Live v d)) → (timing_of l ≡ none → timing_of m ≡ none)
       → Still W (cond b (timing_of l) none) (cond b (timing_of m) none)
-  stays_by false l m f g = still-same none none refl
+  stays_by false l m f g = still_same none none refl
   stays_by true Free m f g = record { dead = λ _. g refl; live = λ t e. absurd (none_some refl e) }
   stays_by true (Live w d) m f g = record {
     dead = λ e. absurd (none_some e refl);
@@ -94,11 +94,11 @@ module _ (W : ℕ → ℕ → Type 0) (c : Changes W) where
   stays_by true Retired m f g = record { dead = λ _. g refl; live = λ t e. absurd (none_some refl e) }
 
   -- a timer whose live word changes as the relation says, and whose deadline and use number stay
-  stays-life : (t : Timer) (m : Life) (w : Waiting) (d : Held)
+  stays_life : (t : Timer) (m : Life) (w : Waiting) (d : Held)
       → ((w d : ℕ) → t.life ≡ Live w d → (v : ℕ) × (W w v) × (m ≡ Live v d)) → (timing_of t.life ≡ none → timing_of m ≡ none)
       → StaysFor W t (record { life = m; waiting = w; held = d; uses = t.uses })
   unfolding names
-  stays-life t m w d f g u = stays_by (eqb t.uses u) t.life m f g
+  stays_life t m w d f g u = stays_by (eqb t.uses u) t.life m f g
 
 -- a word rings only where it is a generation times four
 rung_fires : (w g : ℕ) → Fires w (rung_word w g)
@@ -107,7 +107,7 @@ rung_fires w g = cond-ref (λ v. Fires w v) (ref_eq w (g * 4)) (λ e. inr (omega
 -- a pop's timer
 pub rung_stays : (g : ℕ) (t : Timer) → StaysFor Fires t (rung_timer g t)
 rung_stays g t =
-    stays-life Fires fires_changes t (rung_life g t.life) t.waiting Held.Nothing
+    stays_life Fires fires_changes t (rung_life g t.life) t.waiting Held.Nothing
     (λ w d e. (rung_word w g, rung_fires w g, ap (rung_life g) e)) (dead t.life)
   where
     dead : (l : Life) → timing_of l ≡ none → timing_of (rung_life g l) ≡ none
@@ -120,7 +120,7 @@ rung_stays g t =
 pub marked_stays : (t : Timer) (w : Waiting)
     → StaysFor Marks t (record { life = marked_life t.life; waiting = w; held = Held.Nothing; uses = t.uses })
 marked_stays t w =
-    stays-life Marks marks_changes t (marked_life t.life) w Held.Nothing
+    stays_life Marks marks_changes t (marked_life t.life) w Held.Nothing
     (λ w d e. (invalid_of w, inr refl, ap marked_life e)) (dead t.life)
   where
     dead : (l : Life) → timing_of l ≡ none → timing_of (marked_life l) ≡ none

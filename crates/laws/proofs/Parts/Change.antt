@@ -4,7 +4,7 @@ use mathlib.Core.Path.{◌≡◌, sym}
 use Prim.Native.Nat.{ℕ, ◌<◌}
 use native.Mathlib.Omega.{arith}
 use lib.ListN.{length, set}
-use Rattle.theory.proofs.Stores.{sees-other, sees-here}
+use Rattle.theory.proofs.Stores.{sees_other, sees_here}
 use Rattle.heap.specs.Capacity.{cap}
 use Rattle.heap.specs.declared.Heap.{Heap}
 use Rattle.state.specs.declared.Held.{Held}
@@ -23,9 +23,9 @@ changed s h p t f = record { heap = h; timers = set s.timers p t; first = f; clo
 
 module _ (s : Set) (h : Heap) (p : ℕ) (t : Timer) (f : First) where
   -- the other places name the slots that they named
-  pub held-there : (x : ℕ) → (x ≡ p → ⊥) → held_at (changed s h p t f) x ≡ held_at s x
-  held-there x n = sym (sees-other (λ (u : Timer). u.held) no_timer s.timers p t x n)
+  pub held_there : (x : ℕ) → (x ≡ p → ⊥) → held_at (changed s h p t f) x ≡ held_at s x
+  held_there x n = sym (sees_other (λ (u : Timer). u.held) no_timer s.timers p t x n)
 
   -- the timer at p is the new one
-  pub timer-here : length s.timers ≡ cap → p < cap → timer_at (changed s h p t f) p ≡ t
-  timer-here long b = let l : p < length s.timers = omega arith in sees-here (λ (u : Timer). u) no_timer s.timers p t l
+  pub timer_here : length s.timers ≡ cap → p < cap → timer_at (changed s h p t f) p ≡ t
+  timer_here long b = let l : p < length s.timers = omega arith in sees_here (λ (u : Timer). u) no_timer s.timers p t l

@@ -12,9 +12,9 @@ use borrow.Author.Tests.{lt-ltb}
 use Rattle.theory.specs.Counting.{count}
 use Rattle.theory.specs.Chain.{chain_okb, chain_of}
 use Rattle.theory.proofs.Counting.{count_off}
-use Rattle.theory.proofs.ChainTest.{ok-head}
+use Rattle.theory.proofs.ChainTest.{ok_head}
 use Rattle.theory.proofs.ChainChange.{chain_same, push_ok, pop_ok}
-use Rattle.theory.proofs.Stores.{sees, sees-other}
+use Rattle.theory.proofs.Stores.{sees, sees_other}
 use Rattle.heap.specs.Capacity.{cap}
 use Rattle.heap.specs.declared.Heap.{Heap}
 use Rattle.heap.specs.declared.Place.{Place}
@@ -26,7 +26,7 @@ use Rattle.state.specs.declared.Set.{Set}
 use Rattle.state.specs.State.{no_timer, timer_at, is_waiting, next_in, head_of, head_after}
 use Rattle.state.specs.Faults.{waits_at, after_at}
 use Rattle.moves.specs.Rules.{link_to}
-use Rattle.laws.proofs.Parts.Change.{changed, timer-here}
+use Rattle.laws.proofs.Parts.Change.{changed, timer_here}
 use Rattle.laws.proofs.Parts.Ties.{Listed}
 
 -- a link to the head waits, and names the head
@@ -55,41 +55,41 @@ waits_in s p b = rw (lt-ltb p cap b)
 
 -- the head of the list is in range, and waits
 pub first_waits : (s : Set) (p : Place) → Listed s → s.first ≡ First.At p → waits_at s p.0 ≡ true
-first_waits s p l e = ok-head (waits_at s) (after_at s) cap p.0 (ap (λ (f : First). chain_okb (waits_at s) (after_at s) cap (head_of f)) (sym e) ∙ l)
+first_waits s p l e = ok_head (waits_at s) (after_at s) cap p.0 (ap (λ (f : First). chain_okb (waits_at s) (after_at s) cap (head_of f)) (sym e) ∙ l)
 
 module _ (s : Set) (h : Heap) (p : ℕ) (t : Timer) (f : First) where
-  waits-other : (y : ℕ) → (y ≡ p → ⊥) → waits_at s y ≡ waits_at (changed s h p t f) y
+  waits_other : (y : ℕ) → (y ≡ p → ⊥) → waits_at s y ≡ waits_at (changed s h p t f) y
   unfolding waits_at
-  waits-other y n = ap (λ (w : Waiting). ltb y cap && is_waiting w) (sees-other (λ (u : Timer). u.waiting) no_timer s.timers p t y n)
+  waits_other y n = ap (λ (w : Waiting). ltb y cap && is_waiting w) (sees_other (λ (u : Timer). u.waiting) no_timer s.timers p t y n)
 
-  after-other : (y : ℕ) → (y ≡ p → ⊥) → after_at s y ≡ after_at (changed s h p t f) y
+  after_other : (y : ℕ) → (y ≡ p → ⊥) → after_at s y ≡ after_at (changed s h p t f) y
   unfolding after_at
-  after-other y n = ap next_in (sees-other (λ (u : Timer). u.waiting) no_timer s.timers p t y n)
+  after_other y n = ap next_in (sees_other (λ (u : Timer). u.waiting) no_timer s.timers p t y n)
 
-  waits-same : t.waiting ≡ (timer_at s p).waiting → (y : ℕ) → waits_at s y ≡ waits_at (changed s h p t f) y
+  waits_same : t.waiting ≡ (timer_at s p).waiting → (y : ℕ) → waits_at s y ≡ waits_at (changed s h p t f) y
   unfolding waits_at
-  waits-same e y = ap (λ (w : Waiting). ltb y cap && is_waiting w) (sees (λ (u : Timer). u.waiting) no_timer s.timers p t e y)
+  waits_same e y = ap (λ (w : Waiting). ltb y cap && is_waiting w) (sees (λ (u : Timer). u.waiting) no_timer s.timers p t e y)
 
   after_same : t.waiting ≡ (timer_at s p).waiting → (y : ℕ) → after_at s y ≡ after_at (changed s h p t f) y
   unfolding after_at
   after_same e y = ap next_in (sees (λ (u : Timer). u.waiting) no_timer s.timers p t e y)
 
   -- the place waits as before: the list is as before
-  pub list-stays : t.waiting ≡ (timer_at s p).waiting → f ≡ s.first → Listed s → Listed (changed s h p t f)
-  list-stays e q l =
+  pub list_stays : t.waiting ≡ (timer_at s p).waiting → f ≡ s.first → Listed s → Listed (changed s h p t f)
+  list_stays e q l =
       ap (λ (x : First). chain_okb (waits_at (changed s h p t f)) (after_at (changed s h p t f)) cap (head_of x)) q
-      ∙ sym (chain_same (waits_at s) (waits_at (changed s h p t f)) (after_at s) (after_at (changed s h p t f)) (waits-same e)
+      ∙ sym (chain_same (waits_at s) (waits_at (changed s h p t f)) (after_at s) (after_at (changed s h p t f)) (waits_same e)
       (λ y _. after_same e y) cap (head_of s.first))
       ∙ l
 
   module _ (long : length s.timers ≡ cap) (b : p < cap) where
     -- the place waits where the new timer does
     pub waits_here : waits_at (changed s h p t f) p ≡ is_waiting t.waiting
-    waits_here = waits_in (changed s h p t f) p b ∙ ap (λ (u : Timer). is_waiting u.waiting) (timer-here s h p t f long b)
+    waits_here = waits_in (changed s h p t f) p b ∙ ap (λ (u : Timer). is_waiting u.waiting) (timer_here s h p t f long b)
 
     after_here : after_at (changed s h p t f) p ≡ next_in t.waiting
     unfolding after_at
-    after_here = ap (λ (u : Timer). next_in u.waiting) (timer-here s h p t f long b)
+    after_here = ap (λ (u : Timer). next_in u.waiting) (timer_here s h p t f long b)
 
     -- the place did not wait, and now names the old head
     module _ (off : is_waiting (timer_at s p).waiting ≡ false) (on : t.waiting ≡ link_to s.first) (front : f ≡ First.At (record { 0 = p }))
@@ -98,7 +98,7 @@ module _ (s : Set) (h : Heap) (p : ℕ) (t : Timer) (f : First) where
         pushed : (chain_okb (waits_at (changed s h p t f)) (after_at (changed s h p t f)) cap (some p) ≡ true)
             × (chain_of (waits_at (changed s h p t f)) (after_at (changed s h p t f)) cap (some p) ≡ p ∷ chain_of (waits_at s) (after_at s) cap (head_of s.first))
         pushed =
-            push_ok (waits_at s) (waits_at (changed s h p t f)) (after_at s) (after_at (changed s h p t f)) cap p waits-other after-other
+            push_ok (waits_at s) (waits_at (changed s h p t f)) (after_at s) (after_at (changed s h p t f)) cap p waits_other after_other
             (head_of s.first) b (waits_in s p b ∙ off) (waits_here ∙ ap is_waiting on ∙ link_waits s.first)
             (after_here ∙ ap next_in on ∙ link_next s.first) l
 
@@ -111,32 +111,32 @@ module _ (s : Set) (h : Heap) (p : ℕ) (t : Timer) (f : First) where
     module _ (at : s.first ≡ First.At (record { 0 = p })) (off : is_waiting t.waiting ≡ false) (front : f ≡ head_after (timer_at s p).waiting)
         (l : Listed s)
       where
-        next-front : after_at s p ≡ head_of f
+        next_front : after_at s p ≡ head_of f
         unfolding after_at
-        next-front = sym (ap head_of front ∙ after_next (timer_at s p).waiting)
+        next_front = sym (ap head_of front ∙ after_next (timer_at s p).waiting)
 
-        was-waiting : waits_at s p ≡ true
-        was-waiting = first_waits s (record { 0 = p }) l at
+        was_waiting : waits_at s p ≡ true
+        was_waiting = first_waits s (record { 0 = p }) l at
 
         popped : (chain_okb (waits_at (changed s h p t f)) (after_at (changed s h p t f)) cap (after_at s p) ≡ true)
             × (chain_of (waits_at s) (after_at s) cap (some p) ≡ p ∷ chain_of (waits_at (changed s h p t f)) (after_at (changed s h p t f)) cap (after_at s p))
         popped =
-            pop_ok (waits_at s) (waits_at (changed s h p t f)) (after_at s) (after_at (changed s h p t f)) cap p waits-other after-other
+            pop_ok (waits_at s) (waits_at (changed s h p t f)) (after_at s) (after_at (changed s h p t f)) cap p waits_other after_other
             b (waits_here ∙ off) (ap (λ (x : First). chain_okb (waits_at s) (after_at s) cap (head_of x)) (sym at) ∙ l)
 
         -- the list is right
-        pub list-popped : Listed (changed s h p t f)
-        list-popped =
-            ap (λ (x : Option ℕ). chain_okb (waits_at (changed s h p t f)) (after_at (changed s h p t f)) cap x) (sym next-front) ∙ popped.0
+        pub list_popped : Listed (changed s h p t f)
+        list_popped =
+            ap (λ (x : Option ℕ). chain_okb (waits_at (changed s h p t f)) (after_at (changed s h p t f)) cap x) (sym next_front) ∙ popped.0
 
         -- it is the tail of the list before
-        pub list-pop : list_of s ≡ p ∷ list_of (changed s h p t f)
+        pub list_pop : list_of s ≡ p ∷ list_of (changed s h p t f)
         unfolding list_of
-        list-pop =
+        list_pop =
             ap (λ (x : First). chain_of (waits_at s) (after_at s) cap (head_of x)) at ∙ popped.1
-            ∙ ap (λ (x : Option ℕ). p ∷ chain_of (waits_at (changed s h p t f)) (after_at (changed s h p t f)) cap x) next-front
+            ∙ ap (λ (x : Option ℕ). p ∷ chain_of (waits_at (changed s h p t f)) (after_at (changed s h p t f)) cap x) next_front
 
         -- one timer less waits
-        pub waits-fall : count (waits_at s) cap ≡ suc (count (waits_at (changed s h p t f)) cap)
-        waits-fall =
-            count_off (waits_at (changed s h p t f)) (waits_at s) cap p (λ y n. sym (waits-other y n)) (waits_here ∙ off) was-waiting b
+        pub waits_fall : count (waits_at s) cap ≡ suc (count (waits_at (changed s h p t f)) cap)
+        waits_fall =
+            count_off (waits_at (changed s h p t f)) (waits_at s) cap p (λ y n. sym (waits_other y n)) (waits_here ∙ off) was_waiting b

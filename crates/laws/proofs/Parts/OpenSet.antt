@@ -15,7 +15,7 @@ use Rattle.heap.specs.declared.Entry.{Entry}
 use Rattle.heap.specs.declared.Heap.{Heap}
 use Rattle.heap.specs.Rules.{entry_at}
 use Rattle.heap.proofs.Slots.Slab.{sound_slab}
-use Rattle.heap.proofs.Slots.Lookup.{lookup_full, lookup_state, lookup-some}
+use Rattle.heap.proofs.Slots.Lookup.{lookup_full, lookup_state, lookup_some}
 use Rattle.state.specs.declared.Held.{Held}
 use Rattle.state.specs.declared.First.{First}
 use Rattle.state.specs.declared.Timer.{Timer}
@@ -24,7 +24,7 @@ use Rattle.state.specs.State.{no_timer, timer_at, head_of}
 use Rattle.state.specs.Faults.{waits_at, after_at}
 use Rattle.state.specs.Sound.{Owns, Sound}
 use Rattle.laws.proofs.Parts.OpenSlots.{Stands, Fits, Slots}
-use Rattle.laws.proofs.Parts.Room.{fits-at}
+use Rattle.laws.proofs.Parts.Room.{fits_at}
 use Rattle.laws.proofs.Parts.Lives.{Lives}
 use Rattle.laws.proofs.Parts.Change.{held_at, changed}
 
@@ -37,8 +37,8 @@ pub record Open (s : Set) : Type 0 where
   pub lives : (p : ℕ) → p < cap → Lives (timer_at s p)
 
 module _ (s : Set) (o : Sound s) where
-  slots-own : (p : ℕ) (q : Slot) → p < cap → held_at s p ≡ Held.At q → Stands s.heap q.0 p
-  slots-own p q b e =
+  slots_own : (p : ℕ) (q : Slot) → p < cap → held_at s p ≡ Held.At q → Stands s.heap q.0 p
+  slots_own p q b e =
       let w = o.slot_own p q b e in
       record {
         it = entry_at s.heap w.where_it_stands.0;
@@ -46,22 +46,22 @@ module _ (s : Set) (o : Sound s) where
         mine = w.own;
       }
 
-  sound-slots : Slots s.heap (held_at s)
-  sound-slots = record {
+  sound_slots : Slots s.heap (held_at s)
+  sound_slots = record {
     sound = o.heap_sound;
-    own = slots-own;
+    own = slots_own;
     fits = λ k e l.
-        let r = lookup-some s.heap (sound_slab s.heap o.heap_sound) k e l in
+        let r = lookup_some s.heap (sound_slab s.heap o.heap_sound) k e l in
         subst (λ (x : Entry). Fits (held_at s) x) r.2
         (record { place_in = o.entry_place r.0 r.1; named = o.entry_own r.0 r.1; young = o.generations r.0 r.1 });
   }
 
   -- a sound set that is open has the parts
-  pub sound-open : s.closed ≡ false → Open s
-  sound-open c = record {
+  pub sound_open : s.closed ≡ false → Open s
+  sound_open c = record {
     not_closed = c;
     timers_long = o.timers_long;
-    slots = sound-slots;
+    slots = sound_slots;
     listed = o.listed;
     lives = λ p b. record {
       free_unused = o.free_unused p b;
@@ -73,22 +73,22 @@ module _ (s : Set) (o : Sound s) where
   }
 
 module _ (s : Set) (o : Open s) where
-  open-owns : (p : ℕ) (q : Slot) → p < cap → held_at s p ≡ Held.At q → Owns s p q
-  open-owns p q b e =
+  open_owns : (p : ℕ) (q : Slot) → p < cap → held_at s p ≡ Held.At q → Owns s p q
+  open_owns p q b e =
       let w = o.slots.own p q b e in
       let r = lookup_state s.heap q.0 w.it w.found in
       record { made = r.1; where_it_stands = r.0; full = r.2; own = ap (λ (x : Entry). x.place.0) r.3 ∙ w.mine }
 
   -- the parts make a set sound
-  pub open-sound : Sound s
-  open-sound = record {
+  pub open_sound : Sound s
+  open_sound = record {
     timers_long = o.timers_long;
     heap_sound = o.slots.sound;
     listed = o.listed;
-    slot_own = open-owns;
-    entry_place = λ i b. (fits-at s.heap (held_at s) o.slots i b).place_in;
-    entry_own = λ i b. (fits-at s.heap (held_at s) o.slots i b).named;
-    generations = λ i b. (fits-at s.heap (held_at s) o.slots i b).young;
+    slot_own = open_owns;
+    entry_place = λ i b. (fits_at s.heap (held_at s) o.slots i b).place_in;
+    entry_own = λ i b. (fits_at s.heap (held_at s) o.slots i b).named;
+    generations = λ i b. (fits_at s.heap (held_at s) o.slots i b).young;
     free_unused = λ p b. (o.lives p b).free_unused;
     retired_unused = λ p b. (o.lives p b).retired_unused;
     live_unmarked = λ p w d b _ e. (o.lives p b).live_unmarked w d e;
@@ -100,9 +100,9 @@ module _ (s : Set) (o : Open s) where
 
 module _ (s : Set) (h : Heap) (p : ℕ) (t : Timer) (f : First) where
   -- the three parts make the changed set an open one
-  pub open-changed : Open s → p < cap → Slots h (held_at (changed s h p t f)) → Lives t
+  pub open_changed : Open s → p < cap → Slots h (held_at (changed s h p t f)) → Lives t
       → chain_okb (waits_at (changed s h p t f)) (after_at (changed s h p t f)) cap (head_of f) ≡ true → Open (changed s h p t f)
-  open-changed o b slots lives listed =
+  open_changed o b slots lives listed =
       let l : p < length s.timers = omega (arith, o.timers_long) in
       record {
         not_closed = o.not_closed;

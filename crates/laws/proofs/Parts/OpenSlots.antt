@@ -17,9 +17,9 @@ use Rattle.heap.specs.Lookup.{lookup}
 use Rattle.heap.specs.Calls.{push_gives, push_sound, remove_sound}
 use Rattle.heap.specs.Sound as Heap
 use Rattle.heap.proofs.Slots.Slab.{sound_slab}
-use Rattle.heap.proofs.Slots.Lookup.{lookup-some}
-use Rattle.heap.proofs.Slots.BySlot.{free-none, push_new, push_other, remove_found}
-use Rattle.heap.proofs.Soundness.SoundKept.{push-sound, remove-sound}
+use Rattle.heap.proofs.Slots.Lookup.{lookup_some}
+use Rattle.heap.proofs.Slots.BySlot.{free_none, push_new, push_other, remove_found}
+use Rattle.heap.proofs.Soundness.SoundKept.{push_sound_lem, remove_sound_lem}
 use Rattle.state.specs.declared.Held.{Held}
 use Rattle.moves.specs.Rules.{dropped_of, held_by}
 
@@ -79,8 +79,8 @@ push_gives_lem h at g p room = rw (lt-ltb h.len cap room)
 -- the slot that the place p names may change, and no other place's
 module _ (h : Heap) (held held' : ℕ → Held) (p : ℕ) (s : Slots h held) (there : (x : ℕ) → (x ≡ p → ⊥) → held' x ≡ held x) where
   -- an entry whose place is another stays as it is
-  fits-other : (e : Entry) → Fits held e → (e.place.0 ≡ p → ⊥) → Fits held' e
-  fits-other e f n = record { place_in = f.place_in; named = there e.place.0 n ∙ f.named; young = f.young }
+  fits_other : (e : Entry) → Fits held e → (e.place.0 ≡ p → ⊥) → Fits held' e
+  fits_other e f n = record { place_in = f.place_in; named = there e.place.0 n ∙ f.named; young = f.young }
 
   module _ (q : Slot) (b : p < cap) (at : held p ≡ Held.At q) (off : held' p ≡ Held.Nothing) where
     removed_own : (g : Heap) → ((k : ℕ) → (k ≡ q.0 → ⊥) → lookup g k ≡ lookup h k)
@@ -102,9 +102,9 @@ module _ (h : Heap) (held held' : ℕ → Held) (p : ℕ) (s : Slots h held) (th
         (λ n.
         let was : lookup h k ≡ some e = sym (other k n) ∙ l in
         let f = s.fits k e was in
-        fits-other e f
+        fits_other e f
         (λ y. n
-        (sym (lookup-some h (sound_slab h s.sound) k e was).3
+        (sym (lookup_some h (sound_slab h s.sound) k e was).3
         ∙ ap (λ (z : Slot). z.0) (at_same f.named (ap held y ∙ at)))))
 
     -- the place's entry is removed, and the place names no slot
@@ -113,14 +113,14 @@ module _ (h : Heap) (held held' : ℕ → Held) (p : ℕ) (s : Slots h held) (th
         let o = s.own p q b at in
         let r = remove_found h (sound_slab h s.sound) q o.it o.found in
         record {
-          sound = remove-sound h s.sound q;
+          sound = remove_sound_lem h s.sound q;
           own = removed_own (remove_sound h q).state r.3;
           fits = removed_fits (remove_sound h q).state r.2 r.3;
         }
 
   -- the place drops what entry it has, and names no slot
-  pub slots-dropped : p < cap → held' p ≡ Held.Nothing → Slots (dropped_of h (held p)) held'
-  slots-dropped b off = go (held p) refl
+  pub slots_dropped : p < cap → held' p ≡ Held.Nothing → Slots (dropped_of h (held p)) held'
+  slots_dropped b off = go (held p) refl
     where
       go : (x : Held) → held p ≡ x → Slots (dropped_of h x) held'
       go Held.Nothing e =
@@ -147,7 +147,7 @@ module _ (h : Heap) (held held' : ℕ → Held) (p : ℕ) (s : Slots h held) (th
           it = o.it;
           found =
               push_other h (sound_slab h s.sound) at g (record { 0 = p }) room t.0
-              (λ e. none_some (free-none h (sound_slab h s.sound)) (ap (lookup h) (sym e) ∙ o.found))
+              (λ e. none_some (free_none h (sound_slab h s.sound)) (ap (lookup h) (sym e) ∙ o.found))
               ∙ o.found;
           mine = o.mine;
         })
@@ -161,14 +161,14 @@ module _ (h : Heap) (held held' : ℕ → Held) (p : ℕ) (s : Slots h held) (th
         (λ y. new_fits on e (some_same (sym (push_new h (sound_slab h s.sound) at g (record { 0 = p }) room) ∙ ap (lookup new) (sym y) ∙ l)))
         (λ n.
         let f = s.fits k e (sym (push_other h (sound_slab h s.sound) at g (record { 0 = p }) room k n) ∙ l) in
-        fits-other e f (λ y. nothing_at off (ap held (sym y) ∙ f.named)))
+        fits_other e f (λ y. nothing_at off (ap held (sym y) ∙ f.named)))
 
     -- the place, which names no slot, gets an entry, and names the slot that the push answers
     pub slots_pushed : held' p ≡ held_by (push_sound h at g (record { 0 = p })).answer → Slots (push_sound h at g (record { 0 = p })).state held'
     slots_pushed e =
         let on : held' p ≡ Held.At h.free = e ∙ ap (λ (o : Outcome Heap (Slot × ℕ)). held_by o.answer) (push_gives_lem h at g p room) in
         record {
-          sound = push-sound h s.sound at g (record { 0 = p });
+          sound = push_sound_lem h s.sound at g (record { 0 = p });
           own = rw (push_gives_lem h at g p room) (pushed_own on);
           fits = rw (push_gives_lem h at g p room) (pushed_fits on);
         }

@@ -16,7 +16,7 @@ use Rattle.heap.specs.declared.Slot.{Slot}
 use Rattle.heap.specs.declared.Heap.{Heap}
 use Rattle.heap.specs.Rules.{entry_at, slot_at}
 use Rattle.heap.proofs.Slots.Slab.{sound_slab, slot_apart}
-use Rattle.heap.proofs.Slots.Lookup.{lookup-at}
+use Rattle.heap.proofs.Slots.Lookup.{lookup_at}
 use Rattle.state.specs.declared.Held.{Held}
 use Rattle.laws.proofs.Parts.OpenSlots.{Fits, Slots, nothing_at, at_same}
 
@@ -44,28 +44,28 @@ count_all (suc n) = ap suc (count_all n)
 
 module _ (h : Heap) (held : ℕ → Held) (s : Slots h held) where
   -- the entry at a position is named by its place
-  pub fits-at : (i : ℕ) → i < h.len → Fits held (entry_at h i)
-  fits-at i b = s.fits (slot_at h i) (entry_at h i) (lookup-at h (sound_slab h s.sound) i b)
+  pub fits_at : (i : ℕ) → i < h.len → Fits held (entry_at h i)
+  fits_at i b = s.fits (slot_at h i) (entry_at h i) (lookup_at h (sound_slab h s.sound) i b)
 
   -- two entries have different places
-  place-apart : (i j : ℕ) → i < h.len → j < h.len → (i ≡ j → ⊥) → (entry_at h i).place.0 ≡ (entry_at h j).place.0 → ⊥
-  place-apart i j a b n e =
+  place_apart : (i j : ℕ) → i < h.len → j < h.len → (i ≡ j → ⊥) → (entry_at h i).place.0 ≡ (entry_at h j).place.0 → ⊥
+  place_apart i j a b n e =
       slot_apart h (sound_slab h s.sound) i j a b n
-      (ap (λ (z : Slot). z.0) (at_same (fits-at i a).named (ap held e ∙ (fits-at j b).named)))
+      (ap (λ (z : Slot). z.0) (at_same (fits_at i a).named (ap held e ∙ (fits_at j b).named)))
 
-  places-distinct : (n : ℕ) → n ≤ h.len → Distinct (places_below h n)
+  places_distinct : (n : ℕ) → n ≤ h.len → Distinct (places_below h n)
   unfolding places_below
-  places-distinct zero b = tt
-  places-distinct (suc n) b = (
-    λ m. let r = places_mem h n (entry_at h n).place.0 m in place-apart r.0 n (omega arith) (omega arith) (λ e. omega arith) r.2,
-    places-distinct n (omega arith),
+  places_distinct zero b = tt
+  places_distinct (suc n) b = (
+    λ m. let r = places_mem h n (entry_at h n).place.0 m in place_apart r.0 n (omega arith) (omega arith) (λ e. omega arith) r.2,
+    places_distinct n (omega arith),
   )
 
-  places-in : (n : ℕ) → n ≤ h.len → (x : ℕ) → Mem x (places_below h n) → (x < cap) × (◌≡◌ true true)
-  places-in n b x m =
+  places_in : (n : ℕ) → n ≤ h.len → (x : ℕ) → Mem x (places_below h n) → (x < cap) × (◌≡◌ true true)
+  places_in n b x m =
       let r = places_mem h n x m in
       let l : r.0 < h.len = omega (arith, r.1) in
-      (omega (arith, (fits-at r.0 l).place_in, r.2), refl)
+      (omega (arith, (fits_at r.0 l).place_in, r.2), refl)
 
   -- a place that names no slot leaves room for an entry
   pub room : (p : ℕ) → p < cap → held p ≡ Held.Nothing → h.len < cap
@@ -73,7 +73,7 @@ module _ (h : Heap) (held : ℕ → Held) (s : Slots h held) where
     where
       full : h.len ≡ cap → ⊥
       full q =
-          let m = pigeonhole (places_below h h.len) (λ _. true) cap (places-distinct h.len (omega arith)) (places-in h.len (omega arith))
+          let m = pigeonhole (places_below h h.len) (λ _. true) cap (places_distinct h.len (omega arith)) (places_in h.len (omega arith))
           (places_length h h.len ∙ q ∙ sym (count_all cap)) p b refl in
           let r = places_mem h h.len p m in
-          nothing_at e (ap held (sym r.2) ∙ (fits-at r.0 r.1).named)
+          nothing_at e (ap held (sym r.2) ∙ (fits_at r.0 r.1).named)

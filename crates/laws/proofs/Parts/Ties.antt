@@ -14,7 +14,7 @@ use Rattle.heap.specs.Rules.{entry_at, slot_at}
 use Rattle.heap.specs.Lookup.{lookup}
 use Rattle.heap.specs.Sound as Heap
 use Rattle.heap.proofs.Slots.Slab.{sound_slab}
-use Rattle.heap.proofs.Slots.Lookup.{lookup_full, lookup_state, lookup-at, lookup-some}
+use Rattle.heap.proofs.Slots.Lookup.{lookup_full, lookup_state, lookup_at, lookup_some}
 use Rattle.word.specs.Rules.{invalid_in}
 use Rattle.state.specs.declared.Life.TheVariants.{Free, Live, Cancelled, Retired}
 use Rattle.state.specs.declared.Held.TheVariants as Held
@@ -51,25 +51,25 @@ pub record Fine (closed : Bool) (t : Timer) : Type 0 where
 
 module _ (s : Set) (ok : Sound s) where
   -- a sound set is tied to its heap
-  pub sound-tied : Tied s
-  sound-tied = record {
+  pub sound_tied : Tied s
+  sound_tied = record {
     timers_long = ok.timers_long;
     heap_sound = ok.heap_sound;
     names = λ p q b e. let o = ok.slot_own p q b e in
         (entry_at s.heap o.where_it_stands.0, lookup_full s.heap q.0 o.where_it_stands o.made o.full, o.own);
-    ranges = λ k e l. let r = lookup-some s.heap (sound_slab s.heap ok.heap_sound) k e l in
+    ranges = λ k e l. let r = lookup_some s.heap (sound_slab s.heap ok.heap_sound) k e l in
         subst (λ (x : Entry). (x.place.0 < cap) × (x.generation < 2 ^ 30)) r.2 (ok.entry_place r.0 r.1, ok.generations r.0 r.1);
   }
 
   -- each entry's place names its slot
-  pub sound-owned : Owned s
-  sound-owned k e l =
-      let r = lookup-some s.heap (sound_slab s.heap ok.heap_sound) k e l in
+  pub sound_owned : Owned s
+  sound_owned k e l =
+      let r = lookup_some s.heap (sound_slab s.heap ok.heap_sound) k e l in
       subst (λ (x : Entry). (timer_at s x.place.0).held ≡ Held.At x.slot) r.2 (ok.entry_own r.0 r.1)
 
   -- and each place is fine by itself
-  pub sound-fine : (p : ℕ) → p < cap → Fine s.closed (timer_at s p)
-  sound-fine p b = record {
+  pub sound_fine : (p : ℕ) → p < cap → Fine s.closed (timer_at s p)
+  sound_fine p b = record {
     free_unused = ok.free_unused p b;
     retired_unused = ok.retired_unused p b;
     live_unmarked = λ w d. ok.live_unmarked p w d b;
@@ -89,9 +89,9 @@ tied_sound s t o l f first_none none_left =
       slot_own = λ p q b e. let n = t.names p q b e in
           let w = lookup_state s.heap q.0 n.0 n.1 in
           record { made = w.1; where_it_stands = w.0; full = w.2; own = ap (λ (x : Entry). x.place.0) w.3 ∙ n.2 };
-      entry_place = λ i b. (t.ranges (slot_at s.heap i) (entry_at s.heap i) (lookup-at s.heap slab i b)).0;
-      entry_own = λ i b. o (slot_at s.heap i) (entry_at s.heap i) (lookup-at s.heap slab i b);
-      generations = λ i b. (t.ranges (slot_at s.heap i) (entry_at s.heap i) (lookup-at s.heap slab i b)).1;
+      entry_place = λ i b. (t.ranges (slot_at s.heap i) (entry_at s.heap i) (lookup_at s.heap slab i b)).0;
+      entry_own = λ i b. o (slot_at s.heap i) (entry_at s.heap i) (lookup_at s.heap slab i b);
+      generations = λ i b. (t.ranges (slot_at s.heap i) (entry_at s.heap i) (lookup_at s.heap slab i b)).1;
       free_unused = λ p b. (f p b).free_unused;
       retired_unused = λ p b. (f p b).retired_unused;
       live_unmarked = λ p w d b. (f p b).live_unmarked w d;

@@ -23,7 +23,7 @@ use Rattle.timers.specs.Calls.{Timing, timing_of, live_at}
 use Rattle.laws.specs.EntryOf.{held_entry, entry_of, waiting}
 use Rattle.laws.proofs.Handles.Naming.{names_same, live_in_range, live_told}
 use Rattle.laws.proofs.PlaceByPlace.Places.{Steps, Each, closed_steps}
-use Rattle.laws.proofs.Soundness.ClosedSound.{closed-shut}
+use Rattle.laws.proofs.Soundness.ClosedSound.{closed_shut}
 
 -- a timer is as it was, or is marked, with the use number that it had
 abbrev pub Met : Timer → Timer → Type 0
@@ -58,16 +58,16 @@ module _ (s : Set) (ok : Sound s) (h : Handle) (t : Timing) (live : live_at s h 
   moved : (waiting s h.place.0 ≡ true) ⊎ (((timer_at s h.place.0).held ≡ Held.Nothing) → ⊥)
       → timer_at (closed_of s) h.place.0 ≡ timer_at s h.place.0 → ⊥
   moved r e =
-      let u = (closed-shut s ok).unused h.place.0 (live_told s h t live).in_range in
+      let u = (closed_shut s ok).unused h.place.0 (live_told s h t live).in_range in
       ⊎_elim
       (λ w. true_false w (ap (λ (x : Timer). is_waiting x.waiting) (sym e) ∙ ap is_waiting u.still))
       (λ n. n (ap (λ (x : Timer). x.held) (sym e) ∙ u.bare))
       r
 
   -- a live timer that waits, or names a slot, has the invalid bit after a close
-  pub closed-marks : (waiting s h.place.0 ≡ true) ⊎ (((timer_at s h.place.0).held ≡ Held.Nothing) → ⊥)
+  pub closed_marks : (waiting s h.place.0 ≡ true) ⊎ (((timer_at s h.place.0).held ≡ Held.Nothing) → ⊥)
       → live_at (closed_of s) h ≡ some (record { word = invalid_of t.word; due = t.due })
-  closed-marks r =
+  closed_marks r =
       let o = live_told s h t live in
       ⊎_elim
       (λ e. absurd (moved r e))
@@ -77,6 +77,6 @@ module _ (s : Set) (ok : Sound s) (h : Handle) (t : Timing) (live : live_at s h 
       (closed_met s h.place.0)
 
   -- so has one with an entry
-  pub closed-marks-entry : (e : Entry) → entry_of s h.place.0 ≡ some e
+  pub closed_marks_entry : (e : Entry) → entry_of s h.place.0 ≡ some e
       → live_at (closed_of s) h ≡ some (record { word = invalid_of t.word; due = t.due })
-  closed-marks-entry e f = closed-marks (inr (λ n. none_some (ap (held_entry s.heap) n) f))
+  closed_marks_entry e f = closed_marks (inr (λ n. none_some (ap (held_entry s.heap) n) f))

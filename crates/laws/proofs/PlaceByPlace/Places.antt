@@ -78,11 +78,11 @@ module _ (R : Timer → Timer → Type 0) (o : Order R) where
   stored = put R (order_steps R o)
 
   -- a touch
-  pub touched-each : (s : Set) (p : ℕ) (l : Life)
+  pub touched_each : (s : Set) (p : ℕ) (l : Life)
       → ((w : Waiting) → R (timer_at s p) (record { life = l; waiting = w; held = (timer_at s p).held; uses = (timer_at s p).uses }))
       → Each R s (touched_of s p l)
   unfolding touched_of
-  touched-each s p l e = stored s p _ (e (waiting_by (is_waiting (timer_at s p).waiting) (timer_at s p) s.first))
+  touched_each s p l e = stored s p _ (e (waiting_by (is_waiting (timer_at s p).waiting) (timer_at s p) s.first))
 
   module _ (frees : (t : Timer) (w : ℕ) → t.life ≡ Cancelled w → R t (freed_of t.uses)) where
     -- one update of a drain
@@ -131,6 +131,6 @@ module _ (R : Timer → Timer → Type 0) (o : Order R) where
     advanced_each s N l = ring_each s.heap.len (record { set = s; list = l; reported = 0; popped = 0 }) N
 
   -- a close
-  pub closed-each : ((t : Timer) (w : Waiting) → R t (record { life = marked_life t.life; waiting = w; held = Held.Nothing; uses = t.uses }))
+  pub closed_each : ((t : Timer) (w : Waiting) → R t (record { life = marked_life t.life; waiting = w; held = Held.Nothing; uses = t.uses }))
       → (s : Set) → Each R s (closed_of s)
-  closed-each = closed_steps R (order_steps R o)
+  closed_each = closed_steps R (order_steps R o)

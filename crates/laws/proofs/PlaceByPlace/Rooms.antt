@@ -23,9 +23,9 @@ use Rattle.moves.specs.Rules.{is_free, taken, lowest_free, touched_of, freed_of,
 use Rattle.laws.specs.Words.{Words}
 use Rattle.laws.specs.Rooms.{given_by, given_of, is_cancelled, InUses}
 use Rattle.laws.proofs.Parts.Freed.{freed_by}
-use Rattle.laws.proofs.Soundness.DrainSound.{drained-sound, drained-open, drained-none-waits}
+use Rattle.laws.proofs.Soundness.DrainSound.{drained_sound, drained_open, drained_none_waits}
 use Rattle.laws.proofs.PlaceByPlace.Places.{Order, Each, drained_each, advanced_each}
-use Rattle.laws.proofs.Handles.ByHandle.{touched-here}
+use Rattle.laws.proofs.Handles.ByHandle.{touched_here}
 
 -- RELATIONS OF TIMERS
 
@@ -148,40 +148,40 @@ pub drained_none_cancelled : (s : Set) → Sound s → s.closed ≡ false → Wo
 drained_none_cancelled s ok c words p b =
     none_cancelled (timer_at (drained_of s) p).life
     (λ w e. true_false
-    ((drained-sound s ok c words).cancelled_waits p w b (drained-open s ok c words) e)
-    (ap is_waiting (drained-none-waits s ok c words p b)))
+    ((drained_sound s ok c words).cancelled_waits p w b (drained_open s ok c words) e)
+    (ap is_waiting (drained_none_waits s ok c words p b)))
 
--- A TOUCH; the other places keep their timers (`touched-other`)
+-- A TOUCH; the other places keep their timers (`touched_other`)
 
 module _ (s : Set) (p : ℕ) (l : Life) (long : length s.timers ≡ cap) (b : p < cap) where
   -- the life that it leaves tells how many handles were given out
-  pub touched-given : given_of (timer_at (touched_of s p l) p) ≡ given_by l (timer_at s p).uses
-  touched-given = let t = touched-here s p l long b in ap₂ given_by t.1 t.0
+  pub touched_given : given_of (timer_at (touched_of s p l) p) ≡ given_by l (timer_at s p).uses
+  touched_given = let t = touched_here s p l long b in ap₂ given_by t.1 t.0
 
   -- and whether the timer is cancelled
-  pub touched-cancelled : is_cancelled (timer_at (touched_of s p l) p).life ≡ is_cancelled l
-  touched-cancelled = ap is_cancelled (touched-here s p l long b).1
+  pub touched_cancelled : is_cancelled (timer_at (touched_of s p l) p).life ≡ is_cancelled l
+  touched_cancelled = ap is_cancelled (touched_here s p l long b).1
 
   -- the use number stays in its range where nobody is retired
-  pub touched-in-uses : (l ≡ Retired → ⊥) → InUses (timer_at s p) → InUses (timer_at (touched_of s p l) p)
-  touched-in-uses n u =
-      let t = touched-here s p l long b in
+  pub touched_in_uses : (l ≡ Retired → ⊥) → InUses (timer_at s p) → InUses (timer_at (touched_of s p l) p)
+  touched_in_uses n u =
+      let t = touched_here s p l long b in
       record { fits = omega (arith, t.0, u.fits); retired_last = λ e. absurd (n (sym t.1 ∙ e)) }
 
 -- THE FRESH SET
 
 module _ (p : ℕ) (b : p < cap) where
   -- no handle was given out
-  pub fresh-given : given_of (timer_at fresh_of p) ≡ 0
-  fresh-given = ap given_of (fresh_at p b)
+  pub fresh_given : given_of (timer_at fresh_of p) ≡ 0
+  fresh_given = ap given_of (fresh_at p b)
 
   -- nobody is cancelled
-  pub fresh-cancelled : is_cancelled (timer_at fresh_of p).life ≡ false
-  fresh-cancelled = ap (λ (t : Timer). is_cancelled t.life) (fresh_at p b)
+  pub fresh_cancelled : is_cancelled (timer_at fresh_of p).life ≡ false
+  fresh_cancelled = ap (λ (t : Timer). is_cancelled t.life) (fresh_at p b)
 
   -- the use numbers are in their range
-  pub fresh-in-uses : InUses (timer_at fresh_of p)
-  fresh-in-uses = subst InUses (sym (fresh_at p b)) (record { fits = omega arith; retired_last = λ e. free_retired e })
+  pub fresh_in_uses : InUses (timer_at fresh_of p)
+  fresh_in_uses = subst InUses (sym (fresh_at p b)) (record { fits = omega arith; retired_last = λ e. free_retired e })
 
 -- THE LOWEST FREE PLACE
 

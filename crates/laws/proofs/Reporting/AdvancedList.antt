@@ -21,8 +21,8 @@ use Rattle.state.specs.Handles.{handle_word}
 use Rattle.state.specs.Sound.{Sound}
 use Rattle.moves.specs.Rules.{Ring, rung_life, reports, rung_timer, rung_of, advanced_of}
 use Rattle.laws.specs.Advanced.{Handled, Stays, Rest}
-use Rattle.laws.proofs.Parts.Ties.{sound-tied}
-use Rattle.laws.proofs.Soundness.Popping.{head-place, headless-all}
+use Rattle.laws.proofs.Parts.Ties.{sound_tied}
+use Rattle.laws.proofs.Soundness.Popping.{head_place, headless_all}
 use Rattle.laws.proofs.Soundness.RungSound.{due_some, rung_sound}
 use Rattle.laws.proofs.Soundness.AdvancedSound.{ring_by, from_start, advanced_counts}
 
@@ -52,10 +52,10 @@ module _ (s : Set) (l : List ℕ) (r : Ring) (c : Rest s l r) (b : 0 < r.set.hea
   word = handle_word (record { place = e.place; uses = t.uses })
 
   -- a pop leaves the timers' use numbers, and revives none
-  popped-stays : (p : ℕ) → Stays (timer_at s p) (timer_at (rung_of r).set p)
+  popped_stays : (p : ℕ) → Stays (timer_at s p) (timer_at (rung_of r).set p)
   unfolding rung_of e t
-  popped-stays =
-      headless-all r.set (sound-tied r.set c.set_sound) b (rung_timer e.generation t) (λ p y. Stays (timer_at s p) y)
+  popped_stays =
+      headless_all r.set (sound_tied r.set c.set_sound) b (rung_timer e.generation t) (λ p y. Stays (timer_at s p) y)
       (record {
         same_uses = (c.stays e.place.0).same_uses;
         was_live = λ w d x. let k = rung_live e.generation t.life w d x in (c.stays e.place.0).was_live k.0 d k.1;
@@ -63,14 +63,14 @@ module _ (s : Set) (l : List ℕ) (r : Ring) (c : Rest s l r) (b : 0 < r.set.hea
       (λ p _. c.stays p)
 
   -- it is the word of a live timer's handle, where it is reported
-  word-handled : reports e.generation t.life ≡ true → Handled s word
+  word_handled : reports e.generation t.life ≡ true → Handled s word
   unfolding e t word
-  word-handled x =
+  word_handled x =
       let k = reports_live e.generation t.life x in
       let w = (c.stays e.place.0).was_live k.0 k.1 k.2 in
       record {
         at = e.place.0;
-        in_range = head-place r.set (sound-tied r.set c.set_sound) b t;
+        in_range = head_place r.set (sound_tied r.set c.set_sound) b t;
         state_word = w.0;
         due = k.1;
         live = w.1;
@@ -78,14 +78,14 @@ module _ (s : Set) (l : List ℕ) (r : Ring) (c : Rest s l r) (b : 0 < r.set.hea
       }
 
   -- a pop keeps what holds of the list
-  rung-rest : Rest s l (rung_of r)
+  rung_rest : Rest s l (rung_of r)
   unfolding rung_of e t word
-  rung-rest = record {
+  rung_rest = record {
     set_sound = rung_sound r c.set_sound b;
-    stays = popped-stays;
+    stays = popped_stays;
     same_length = lengths (reports e.generation t.life);
     untouched = beyond (reports e.generation t.life);
-    written = before (reports e.generation t.life) word-handled;
+    written = before (reports e.generation t.life) word_handled;
   }
     where
       lengths : (f : Bool) → length (cond f (set r.list r.reported word) r.list) ≡ length l
@@ -112,7 +112,7 @@ module _ (s : Set) (l : List ℕ) (r : Ring) (c : Rest s l r) (b : 0 < r.set.hea
 pub advanced_rest : (s : Set) (N : ℕ) (l : List ℕ) → Sound s → Rest s l (advanced_of s N l)
 unfolding advanced_of
 advanced_rest s N l ok =
-    ring_by (Rest s l) N (λ r d c. rung-rest s l r c (due_some r.set.heap N d)) s.heap.len (from_start s l)
+    ring_by (Rest s l) N (λ r d c. rung_rest s l r c (due_some r.set.heap N d)) s.heap.len (from_start s l)
     (record {
       set_sound = ok;
       stays = λ p. record { same_uses = refl; was_live = λ w d x. (w, x) };

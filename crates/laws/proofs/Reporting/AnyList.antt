@@ -25,7 +25,7 @@ use Rattle.moves.specs.Rules.{drained_of, Ring, due_by, rung_of, ring_from, adva
 use Rattle.timers.specs.Values.{reports_in}
 use Rattle.timers.specs.Calls.{Value, counts, Lent, judged, refusing, guarded, lent, rang, roomy, turn_of}
 use Rattle.laws.specs.Words.{Words}
-use Rattle.laws.proofs.Soundness.DrainSound.{drained-sound}
+use Rattle.laws.proofs.Soundness.DrainSound.{drained_sound}
 use Rattle.laws.proofs.Soundness.RungSound.{due_some, rung_sound}
 use Rattle.laws.proofs.Soundness.AdvancedSound.{from_start}
 use Rattle.laws.proofs.Reporting.Written.{head_reports, head_word, rung_words, rung_long, rung_reported, rung_left}
@@ -49,15 +49,15 @@ bit_small false = omega arith
 
 module _ (r : Ring) (m : Roomy r) (b : 0 < r.set.heap.len) where
   -- a pop leaves room
-  rung-roomy : Roomy (rung_of r)
-  rung-roomy = record {
+  rung_roomy : Roomy (rung_of r)
+  rung_roomy = record {
     sound = rung_sound r m.sound b;
     room = omega (arith, m.room, rung_reported r, bit_small (head_reports r), rung_left r m.sound b, rung_long r);
   }
 
   -- and there was room for its word
-  rung-fits : r.reported < length r.list
-  rung-fits = omega (arith, m.room)
+  rung_fits : r.reported < length r.list
+  rung_fits = omega (arith, m.room)
 
 -- what a pop does beside the list, it does by the set alone
 rung_same : (q r : Ring) → SameReports q r → Roomy q → Roomy r → 0 < q.set.heap.len → 0 < r.set.heap.len → SameReports (rung_of q) (rung_of r)
@@ -70,9 +70,9 @@ rung_same q r e m n b c =
           rung_reported q ∙ (λ t. e.reported t + bit (head_reports (bare (e.sets t)))) ∙ sym (rung_reported r);
       popped = ap (λ (k : ℕ). k + 1) e.popped;
       words =
-          rung_words q (rung-fits q m b)
+          rung_words q (rung_fits q m b)
           ∙ (λ t. e.words t ++ cond (head_reports (bare (e.sets t))) (head_word (bare (e.sets t)) ∷ []) [])
-          ∙ sym (rung_words r (rung-fits r n c));
+          ∙ sym (rung_words r (rung_fits r n c));
     }
 
 -- a run of pops
@@ -84,7 +84,7 @@ rings_same (suc k) q r N e m n =
     choose_ref SameReports same (ref_self (due_by r.set.heap N))
     (λ d. let b : 0 < q.set.heap.len = due_some q.set.heap N (same ∙ d) in
     let c : 0 < r.set.heap.len = due_some r.set.heap N d in
-    rings_same k (rung_of q) (rung_of r) N (rung_same q r e m n b c) (rung-roomy q m b) (rung-roomy r n c))
+    rings_same k (rung_of q) (rung_of r) N (rung_same q r e m n b c) (rung_roomy q m b) (rung_roomy r n c))
     (λ _. e)
 
 -- an advance
@@ -112,7 +112,7 @@ turn_any_list s ok words N l m same = go (fault_of s) s.closed refl
 
     rung : s.closed ≡ false → cap ≤ length l → cap ≤ length m → SameTurn (rang (run l)) (rang (run m))
     rung c a b =
-        let d = drained-sound s ok c words in
+        let d = drained_sound s ok c words in
         let e = advanced_any_list (drained_of s) N l m d (omega (arith, d.heap_sound.len_in)) (omega (arith, d.heap_sound.len_in)) in
         record { answers = λ t. accepted (counts (e.reported t) (e.popped t)); sets = e.sets; reports = e.words }
 

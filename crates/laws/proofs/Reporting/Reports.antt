@@ -24,10 +24,10 @@ use Rattle.laws.specs.Advanced.{Handled}
 use Rattle.laws.specs.Reports.{Reports, OfLive}
 use Rattle.laws.proofs.Handles.Naming.{names_same, live_in_range, live_told}
 use Rattle.laws.proofs.Handles.ByHandle.{handle_at, drained_keeps}
-use Rattle.laws.proofs.Soundness.DrainSound.{drained-sound}
+use Rattle.laws.proofs.Soundness.DrainSound.{drained_sound}
 use Rattle.laws.proofs.Reporting.AdvancedList.{advanced_words}
 use Rattle.laws.proofs.Soundness.StepSound.{after_fit, fresh_fit}
-use Rattle.laws.proofs.AnyCall.CallCases.{sound-by, alive-by, add-by, reset_by, cancel-by, drain-by, close-by, tick-by, restart-by, advance-by, turn_by}
+use Rattle.laws.proofs.AnyCall.CallCases.{sound_by, alive_by, add_by, reset_by, cancel_by, drain_by, close_by, tick_by, restart_by, advance_by, turn_by}
 use Rattle.laws.proofs.Handles.Ever.{cancelled_stays_dead}
 
 -- the word of a live timer's handle is that of a live handle
@@ -85,28 +85,28 @@ module _ (s : Set) where
   no : (a : Answer Value) → is_accepted a ≡ false → Quiet (kept s a)
   no = refused_silent
 
-  refused-live : (l : List ℕ) (a : Answer Value) → is_accepted a ≡ false → Rings s (kept (lent s l) a)
-  refused-live l a q = silent_live s l a (refused_silent a q)
+  refused_live : (l : List ℕ) (a : Answer Value) → is_accepted a ≡ false → Rings s (kept (lent s l) a)
+  refused_live l a q = silent_live s l a (refused_silent a q)
 
   -- no call but an advance and a turn answers counts, and these report live handles alone
   all_live : Fit s → (c : Call) (l : List ℕ) → Rings s (step s c l)
   unfolding step next_wake_of poll_of
-  all_live f (C.Add d) l = silent_live s l _ (add-by Quiet s no d (λ _ p _. other_silent _ refl))
+  all_live f (C.Add d) l = silent_live s l _ (add_by Quiet s no d (λ _ p _. other_silent _ refl))
   all_live f (C.Reset h d) l = silent_live s l _ (reset_by Quiet s no h d (λ _ t _. other_silent _ refl))
-  all_live f (C.Cancel h) l = silent_live s l _ (cancel-by Quiet s no h (λ _ t _. other_silent _ refl))
-  all_live f C.Drain l = silent_live s l _ (drain-by Quiet s no (λ _. other_silent _ refl))
+  all_live f (C.Cancel h) l = silent_live s l _ (cancel_by Quiet s no h (λ _ t _. other_silent _ refl))
+  all_live f C.Drain l = silent_live s l _ (drain_by Quiet s no (λ _. other_silent _ refl))
   all_live f (C.Advance N) l =
-      advance-by (Rings s) s l (refused-live l) N
+      advance_by (Rings s) s l (refused_live l) N
       (λ _ m. rang_live s (advanced_of s N l) (λ i h. handled_live s _ (advanced_words s N l f.sound m i h)))
   all_live f (C.Turn N) l =
-      turn_by (Rings s) s l (refused-live l) N
-      (λ a m. let o = drained-sound s f.sound a.still_open f.words in rang_live s (advanced_of (drained_of s) N l)
+      turn_by (Rings s) s l (refused_live l) N
+      (λ a m. let o = drained_sound s f.sound a.still_open f.words in rang_live s (advanced_of (drained_of s) N l)
       (λ i h. drained_live s _ (handled_live (drained_of s) _ (advanced_words (drained_of s) N l o m i h))))
-  all_live f C.NextWake l = silent_live s l _ (sound-by Quiet s s no _ (λ _. other_silent _ refl))
-  all_live f (C.Poll h) l = silent_live s l _ (sound-by Quiet s s no _ (λ _. alive-by Quiet s no h _ (λ t _. other_silent _ refl)))
-  all_live f C.Close l = silent_live s l _ (close-by Quiet s no (λ _. other_silent _ refl))
-  all_live f (C.Tick h p period N) l = silent_live s l _ (tick-by Quiet s no h p period N (λ _ t _ _ d _. other_silent _ refl))
-  all_live f (C.Restart h period N) l = silent_live s l _ (restart-by Quiet s no h period N (λ _ t _ d _. other_silent _ refl))
+  all_live f C.NextWake l = silent_live s l _ (sound_by Quiet s s no _ (λ _. other_silent _ refl))
+  all_live f (C.Poll h) l = silent_live s l _ (sound_by Quiet s s no _ (λ _. alive_by Quiet s no h _ (λ t _. other_silent _ refl)))
+  all_live f C.Close l = silent_live s l _ (close_by Quiet s no (λ _. other_silent _ refl))
+  all_live f (C.Tick h p period N) l = silent_live s l _ (tick_by Quiet s no h p period N (λ _ t _ _ d _. other_silent _ refl))
+  all_live f (C.Restart h period N) l = silent_live s l _ (restart_by Quiet s no h period N (λ _ t _ d _. other_silent _ refl))
 
 -- what a call reports is the word of a handle that was live when the call was made
 pub reported_live : (s : Set) → Fit s → (c : Call) (l : List ℕ) (w : ℕ) → Reports s c l w → OfLive s w
@@ -126,7 +126,7 @@ pub cancelled_unreported : (s : Set) → Fit s → (h : Handle) (v : Value) → 
 unfolding step
 cancelled_unreported s f h v e cs =
     dead_unreported (after cs (cancel_of s h).state) (after_fit ((C.Cancel h, []) ∷ cs) s f) h
-    (cancel-by (λ o. o.answer ≡ accepted v → h.place.0 < cap) s (λ m r q. never r q) h (λ _ t q _. (live_told s h t q).in_range) e)
+    (cancel_by (λ o. o.answer ≡ accepted v → h.place.0 < cap) s (λ m r q. never r q) h (λ _ t q _. (live_told s h t q).in_range) e)
     (cancelled_stays_dead s h v f.words.long e cs)
 
 -- and so from a fresh set, whatever calls came before the cancel

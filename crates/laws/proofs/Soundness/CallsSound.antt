@@ -18,28 +18,28 @@ use Rattle.laws.specs.Words.{Words}
 use Rattle.laws.proofs.PlaceByPlace.Words.{live_small, other_small, touched_words, drained_words}
 use Rattle.laws.proofs.PlaceByPlace.WordsKept.{advanced_words_kept, closed_words}
 use Rattle.laws.proofs.AnyCall.Found.{reset_unmarked, reset_small, lowest_in, live_in}
-use Rattle.laws.proofs.Soundness.Touch.{touched-sound}
+use Rattle.laws.proofs.Soundness.Touch.{touched_sound}
 use Rattle.laws.proofs.AnyCall.CallsKeep.{Kept, Any, step_keeps_it}
 
 module _ (s : Set) (o : Sound s) where
   -- an add, in the lowest free place
-  added-sound : (p d : ℕ) → s.closed ≡ false → lowest_free s ≡ some p → Sound (touched_of s p (Live 0 d))
-  added-sound p d c e = touched-sound s p (Live 0 d) o c (lowest_in s p e) refl
+  added_sound : (p d : ℕ) → s.closed ≡ false → lowest_free s ≡ some p → Sound (touched_of s p (Live 0 d))
+  added_sound p d c e = touched_sound s p (Live 0 d) o c (lowest_in s p e) refl
 
   -- a reset of a timer that is live
-  reset-to-sound : (h : Handle) (t : Timing) (d : ℕ) → s.closed ≡ false → live_at s h ≡ some t → Sound (reset_to s h d t)
-  reset-to-sound h t d c e =
-      touched-sound s h.place.0 (Live (Word.reset_of t.word) d) o c (live_in s h t e).0 (reset_unmarked t.word)
+  reset_to_sound : (h : Handle) (t : Timing) (d : ℕ) → s.closed ≡ false → live_at s h ≡ some t → Sound (reset_to s h d t)
+  reset_to_sound h t d c e =
+      touched_sound s h.place.0 (Live (Word.reset_of t.word) d) o c (live_in s h t e).0 (reset_unmarked t.word)
 
   -- a cancel of a timer that is live: its word is not marked, since the set is open
-  cancelled-sound : (h : Handle) (t : Timing) → s.closed ≡ false → live_at s h ≡ some t → Sound (touched_of s h.place.0 (Cancelled t.word))
-  cancelled-sound h t c e =
+  cancelled_sound : (h : Handle) (t : Timing) → s.closed ≡ false → live_at s h ≡ some t → Sound (touched_of s h.place.0 (Cancelled t.word))
+  cancelled_sound h t c e =
       let q = live_in s h t e in
-      touched-sound s h.place.0 (Cancelled t.word) o c q.0 (o.live_unmarked h.place.0 t.word t.due q.0 c q.1)
+      touched_sound s h.place.0 (Cancelled t.word) o c q.0 (o.live_unmarked h.place.0 t.word t.due q.0 c q.1)
 
   -- the changes of one timer
-  pub sound-kept : Kept Any Sound s
-  sound-kept = record { now = o; adds = λ p d _. added-sound p d; resets = λ h t d _. reset-to-sound h t d; cancels = cancelled-sound }
+  pub sound_kept : Kept Any Sound s
+  sound_kept = record { now = o; adds = λ p d _. added_sound p d; resets = λ h t d _. reset_to_sound h t d; cancels = cancelled_sound }
 
 -- every call, of any set
 pub step_words : (s : Set) → Words s → (c : Call) (l : List ℕ) → Words (step s c l).state.set

@@ -16,7 +16,7 @@ use Rattle.state.specs.declared.Set.{Set}
 use Rattle.state.specs.State.{timer_at}
 use Rattle.state.specs.Sound.{Sound}
 use Rattle.moves.specs.Rules.{marked_life}
-use Rattle.laws.proofs.Parts.Ties.{Tied, Listed, Fine, sound-tied, sound-fine}
+use Rattle.laws.proofs.Parts.Ties.{Tied, Listed, Fine, sound_tied, sound_fine}
 
 -- a set in the middle of a close: tied to its heap, its list in order, each place as in a closed set
 pub record Closing (s : Set) : Type 0 where
@@ -36,7 +36,7 @@ closed_fine f = record {
 
 -- a close begins with a sound set
 pub sound_closing : (s : Set) → Sound s → Closing s
-sound_closing s ok = record { tied = sound-tied s ok; listed = ok.listed; fine = λ p b. closed_fine (sound-fine s ok p b) }
+sound_closing s ok = record { tied = sound_tied s ok; listed = ok.listed; fine = λ p b. closed_fine (sound_fine s ok p b) }
 
 -- a mark frees no place, and retires none
 marked_free : (l : Life) → marked_life l ≡ Free → l ≡ Free

@@ -9,7 +9,7 @@ use Rattle.theory.specs.Counting.{count}
 use Rattle.theory.specs.Chain.{chain_okb}
 use Rattle.theory.proofs.Tests.{is_false}
 use Rattle.theory.proofs.Counting.{count_le, count_zero}
-use Rattle.theory.proofs.ChainTest.{ok-none}
+use Rattle.theory.proofs.ChainTest.{ok_none}
 use Rattle.heap.specs.Capacity.{cap}
 use Rattle.state.specs.declared.Waiting.{Waiting}
 use Rattle.state.specs.declared.Waiting.TheVariants.{No, Last, Before}
@@ -21,9 +21,9 @@ use Rattle.state.specs.Sound.{Sound}
 use Rattle.moves.specs.Rules.{settled_of, list_turn, drain_from, drained_of}
 use Rattle.laws.specs.Words.{Words}
 use Rattle.laws.proofs.PlaceByPlace.Words.{settled_words}
-use Rattle.laws.proofs.Parts.OpenSet.{Open, sound-open, open-sound}
+use Rattle.laws.proofs.Parts.OpenSet.{Open, sound_open, open_sound}
 use Rattle.laws.proofs.Parts.ListChange.{waits_in, first_waits}
-use Rattle.laws.proofs.Soundness.Settle.{waits_below, settled-settles}
+use Rattle.laws.proofs.Soundness.Settle.{waits_below, settled_settles}
 
 -- an open set in which no timer waits
 pub record Drained (s : Set) : Type 0 where
@@ -43,7 +43,7 @@ empty_first s o e = go s.first refl
 
 -- no timer waits where the list is empty
 pub empty_none : (s : Set) → Open s → s.first ≡ First.Nothing → count (waits_at s) cap ≡ 0
-empty_none s o e = ok-none (waits_at s) (after_at s) cap (ap (λ (f : First). chain_okb (waits_at s) (after_at s) cap (head_of f)) (sym e) ∙ o.listed)
+empty_none s o e = ok_none (waits_at s) (after_at s) cap (ap (λ (f : First). chain_okb (waits_at s) (after_at s) cap (head_of f)) (sym e) ∙ o.listed)
 
 -- as many turns as timers wait are enough
 drain_drained : (k : ℕ) (s : Set) → Open s → Words s → count (waits_at s) cap ≤ k → Drained (drain_from k s)
@@ -57,7 +57,7 @@ drain_drained (suc k) s o w l = go s.first refl (λ r t v b. drain_drained k r t
         → Drained (list_turn s f (λ p. drain_from k (settled_of s p)))
     go First.Nothing e rest = record { is_open = o; first_none = e; none_waits = empty_none s o e }
     go (First.At p) e rest =
-        let t = settled-settles s o w p.0 e in
+        let t = settled_settles s o w p.0 e in
         rest (settled_of s p.0) t.is_open (settled_words s p.0 w) (omega (arith, t.fewer))
 
 no_wait : (w : Waiting) → is_waiting w ≡ false → w ≡ No
@@ -67,20 +67,20 @@ no_wait (Before q) e = cc
 
 module _ (s : Set) (sound : Sound s) (c : s.closed ≡ false) (words : Words s) where
   -- what a drain leaves
-  drained-drained : Drained (drained_of s)
-  drained-drained = drain_drained cap s (sound-open s sound c) words (count_le (waits_at s) cap)
+  drained_drained : Drained (drained_of s)
+  drained_drained = drain_drained cap s (sound_open s sound c) words (count_le (waits_at s) cap)
 
   -- a drain keeps a set that is open sound
-  pub drained-sound : Sound (drained_of s)
-  drained-sound = open-sound (drained_of s) drained-drained.is_open
+  pub drained_sound : Sound (drained_of s)
+  drained_sound = open_sound (drained_of s) drained_drained.is_open
 
   -- the set stays open
-  pub drained-open : (drained_of s).closed ≡ false
-  drained-open = drained-drained.is_open.not_closed
+  pub drained_open : (drained_of s).closed ≡ false
+  drained_open = drained_drained.is_open.not_closed
 
   -- no timer waits after it
-  pub drained-none-waits : (p : ℕ) → p < cap → (timer_at (drained_of s) p).waiting ≡ No
-  drained-none-waits p b =
+  pub drained_none_waits : (p : ℕ) → p < cap → (timer_at (drained_of s) p).waiting ≡ No
+  drained_none_waits p b =
       no_wait (timer_at (drained_of s) p).waiting
       (sym (waits_in (drained_of s) p b)
-      ∙ is_false (waits_at (drained_of s) p) (count_zero (waits_at (drained_of s)) cap drained-drained.none_waits p b))
+      ∙ is_false (waits_at (drained_of s) p) (count_zero (waits_at (drained_of s)) cap drained_drained.none_waits p b))

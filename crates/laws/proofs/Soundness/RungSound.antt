@@ -20,8 +20,8 @@ use Rattle.state.specs.declared.Set.{Set}
 use Rattle.state.specs.State.{timer_at}
 use Rattle.state.specs.Sound.{Sound}
 use Rattle.moves.specs.Rules.{Ring, due_by, rung_word, rung_life, rung_timer, rung_of}
-use Rattle.laws.proofs.Parts.Ties.{Tied, Fine, sound-tied, sound-owned, sound-fine, tied_sound}
-use Rattle.laws.proofs.Soundness.Popping.{headless, headless-all, headless-tied, headless-owned, headless-listed}
+use Rattle.laws.proofs.Parts.Ties.{Tied, Fine, sound_tied, sound_owned, sound_fine, tied_sound}
+use Rattle.laws.proofs.Soundness.Popping.{headless, headless_all, headless_tied, headless_owned, headless_listed}
 
 -- firing does not touch the invalid bit
 fired_invalid : (w : ℕ) → invalid_in (fired_of w) ≡ invalid_in w
@@ -79,11 +79,11 @@ due_some h N e = ltb-true 0 h.len (and_left (ltb 0 h.len) (leb (entry_at h 0).at
 pub rung_sound : (r : Ring) → Sound r.set → 0 < r.set.heap.len → Sound (rung_of r).set
 unfolding rung_of
 rung_sound r ok b =
-    tied_sound (headless s t) (headless-tied s ties b t refl) (headless-owned s ties b t (sound-owned s ok))
-    (headless-listed s ties b t refl ok.listed)
-    (headless-all s ties b t (λ p y. p < cap → Fine s.closed y)
-    (λ c. rung_fine s.closed (entry_at s.heap 0).generation (timer_at s (entry_at s.heap 0).place.0) (sound-fine s ok (entry_at s.heap 0).place.0 c))
-    (λ p _. sound-fine s ok p))
+    tied_sound (headless s t) (headless_tied s ties b t refl) (headless_owned s ties b t (sound_owned s ok))
+    (headless_listed s ties b t refl ok.listed)
+    (headless_all s ties b t (λ p y. p < cap → Fine s.closed y)
+    (λ c. rung_fine s.closed (entry_at s.heap 0).generation (timer_at s (entry_at s.heap 0).place.0) (sound_fine s ok (entry_at s.heap 0).place.0 c))
+    (λ p _. sound_fine s ok p))
     ok.list_empty
     (λ e. absurd (omega (arith, ok.heap_empty e)))
   where
@@ -94,4 +94,4 @@ rung_sound r ok b =
     t = rung_timer (entry_at s.heap 0).generation (timer_at s (entry_at s.heap 0).place.0)
 
     ties : Tied s
-    ties = sound-tied s ok
+    ties = sound_tied s ok

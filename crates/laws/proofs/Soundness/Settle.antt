@@ -29,13 +29,13 @@ use Rattle.state.specs.Faults.{waits_at}
 use Rattle.state.specs.Sound.{Unused}
 use Rattle.moves.specs.Rules.{with_first, dropped_of, held_by, freed_of, settled_by, settled_of}
 use Rattle.laws.specs.Words.{Words}
-use Rattle.laws.proofs.Parts.OpenSlots.{Slots, slots-dropped, slots_pushed}
+use Rattle.laws.proofs.Parts.OpenSlots.{Slots, slots_dropped, slots_pushed}
 use Rattle.laws.proofs.Parts.Room.{room}
 use Rattle.laws.proofs.Parts.Lives.{Lives, lives_live}
 use Rattle.laws.proofs.Parts.Freed.{freed_held, freed_waiting, freed_lives}
-use Rattle.laws.proofs.Parts.Change.{held_at, changed, held-there, timer-here}
-use Rattle.laws.proofs.Parts.OpenSet.{Open, open-changed}
-use Rattle.laws.proofs.Parts.ListChange.{list_of, waits_in, first_waits, list-popped, list-pop, waits-fall}
+use Rattle.laws.proofs.Parts.Change.{held_at, changed, held_there, timer_here}
+use Rattle.laws.proofs.Parts.OpenSet.{Open, open_changed}
+use Rattle.laws.proofs.Parts.ListChange.{list_of, waits_in, first_waits, list_popped, list_pop, waits_fall}
 
 -- what one turn with the timer at p makes of s
 pub record Settles (s : Set) (p : ℕ) (r : Set) : Type 0 where
@@ -60,8 +60,8 @@ module _ (s : Set) (o : Open s) (words : Words s) (p : ℕ) (at : s.first ≡ Fi
   first_in = waits_below s p (first_waits s (record { 0 = p }) o.listed at)
 
   -- it waits
-  pub first-waiting : is_waiting (timer_at s p).waiting ≡ true
-  first-waiting = sym (waits_in s p first_in) ∙ first_waits s (record { 0 = p }) o.listed at
+  pub first_waiting : is_waiting (timer_at s p).waiting ≡ true
+  first_waiting = sym (waits_in s p first_in) ∙ first_waits s (record { 0 = p }) o.listed at
 
   -- the set after the turn: another heap, another timer at p, and the next timer at the head of the list
   abbrev after : Heap → Timer → Set
@@ -71,10 +71,10 @@ module _ (s : Set) (o : Open s) (words : Words s) (p : ℕ) (at : s.first ≡ Fi
       → Settles s p (after h t)
   settles h t off slots lives = record {
     is_open =
-        open-changed s h p t (head_after (timer_at s p).waiting) o first_in slots lives
-        (list-popped s h p t (head_after (timer_at s p).waiting) o.timers_long first_in at off refl o.listed);
-    tail = list-pop s h p t (head_after (timer_at s p).waiting) o.timers_long first_in at off refl o.listed;
-    fewer = waits-fall s h p t (head_after (timer_at s p).waiting) o.timers_long first_in at off refl o.listed;
+        open_changed s h p t (head_after (timer_at s p).waiting) o first_in slots lives
+        (list_popped s h p t (head_after (timer_at s p).waiting) o.timers_long first_in at off refl o.listed);
+    tail = list_pop s h p t (head_after (timer_at s p).waiting) o.timers_long first_in at off refl o.listed;
+    fewer = waits_fall s h p t (head_after (timer_at s p).waiting) o.timers_long first_in at off refl o.listed;
   }
 
   -- what the places name once the timer has dropped its entry
@@ -86,14 +86,14 @@ module _ (s : Set) (o : Open s) (words : Words s) (p : ℕ) (at : s.first ≡ Fi
   less = dropped_of s.heap (timer_at s p).held
 
   -- the two name each other
-  pub less-slots : Slots less bare
-  less-slots =
-      slots-dropped s.heap (held_at s) bare p o.slots (upd_other ℕ_discrete (held_at s) p Held.Nothing) first_in
+  pub less_slots : Slots less bare
+  less_slots =
+      slots_dropped s.heap (held_at s) bare p o.slots (upd_other ℕ_discrete (held_at s) p Held.Nothing) first_in
       (upd_same ℕ_discrete (held_at s) p Held.Nothing)
 
   -- there is room for an entry
-  pub less-room : less.len < cap
-  less-room = room less bare less-slots p first_in (upd_same ℕ_discrete (held_at s) p Held.Nothing)
+  pub less_room : less.len < cap
+  less_room = room less bare less_slots p first_in (upd_same ℕ_discrete (held_at s) p Held.Nothing)
 
   -- the new entry of a live timer
   module _ (w d : ℕ) where
@@ -111,11 +111,11 @@ module _ (s : Set) (o : Open s) (words : Words s) (p : ℕ) (at : s.first ≡ Fi
     more_slots : w < 2 ^ 32 → Slots more (held_at (after more live))
     more_slots b =
         let young : generation_of w < 2 ^ 30 = omega arith in
-        slots_pushed less bare (held_at (after more live)) p less-slots
-        (λ x n. held-there s more p live (head_after (timer_at s p).waiting) x n ∙ sym (upd_other ℕ_discrete (held_at s) p Held.Nothing x n))
-        d (generation_of w) first_in less-room young
+        slots_pushed less bare (held_at (after more live)) p less_slots
+        (λ x n. held_there s more p live (head_after (timer_at s p).waiting) x n ∙ sym (upd_other ℕ_discrete (held_at s) p Held.Nothing x n))
+        d (generation_of w) first_in less_room young
         (upd_same ℕ_discrete (held_at s) p Held.Nothing)
-        (ap (λ (u : Timer). u.held) (timer-here s more p live (head_after (timer_at s p).waiting) o.timers_long first_in))
+        (ap (λ (u : Timer). u.held) (timer_here s more p live (head_after (timer_at s p).waiting) o.timers_long first_in))
 
     live_settles : (timer_at s p).life ≡ Live w d → Settles s p (after more live)
     live_settles e =
@@ -123,24 +123,24 @@ module _ (s : Set) (o : Open s) (words : Words s) (p : ℕ) (at : s.first ≡ Fi
         (lives_live live w d refl ((o.lives p first_in).live_unmarked w d e))
 
   -- a cancelled timer's place is freed
-  freed-slots : Slots less (held_at (after less (freed_of (timer_at s p).uses)))
-  freed-slots =
-      slots-dropped s.heap (held_at s) (held_at (after less (freed_of (timer_at s p).uses))) p o.slots
-      (held-there s less p (freed_of (timer_at s p).uses) (head_after (timer_at s p).waiting)) first_in
+  freed_slots : Slots less (held_at (after less (freed_of (timer_at s p).uses)))
+  freed_slots =
+      slots_dropped s.heap (held_at s) (held_at (after less (freed_of (timer_at s p).uses))) p o.slots
+      (held_there s less p (freed_of (timer_at s p).uses) (head_after (timer_at s p).waiting)) first_in
       (ap (λ (u : Timer). u.held)
-      (timer-here s less p (freed_of (timer_at s p).uses) (head_after (timer_at s p).waiting) o.timers_long first_in)
+      (timer_here s less p (freed_of (timer_at s p).uses) (head_after (timer_at s p).waiting) o.timers_long first_in)
       ∙ freed_held (timer_at s p).uses)
 
   -- the turn, by whose place it is; a place that waits is neither free nor retired
-  settles-by : (l : Life) → (timer_at s p).life ≡ l
+  settles_by : (l : Life) → (timer_at s p).life ≡ l
       → Settles s p (settled_by (with_first s (head_after (timer_at s p).waiting)) p (timer_at s p) l)
-  settles-by (Live w d) e = live_settles w d e
-  settles-by (Cancelled w) e =
-      settles less (freed_of (timer_at s p).uses) (freed_waiting (timer_at s p).uses) freed-slots (freed_lives (timer_at s p).uses)
-  settles-by Free e = unused_waits ((o.lives p first_in).free_unused e) first-waiting
-  settles-by Retired e = unused_waits ((o.lives p first_in).retired_unused e) first-waiting
+  settles_by (Live w d) e = live_settles w d e
+  settles_by (Cancelled w) e =
+      settles less (freed_of (timer_at s p).uses) (freed_waiting (timer_at s p).uses) freed_slots (freed_lives (timer_at s p).uses)
+  settles_by Free e = unused_waits ((o.lives p first_in).free_unused e) first_waiting
+  settles_by Retired e = unused_waits ((o.lives p first_in).retired_unused e) first_waiting
 
   -- one turn keeps the parts of a sound set that is open, and takes the first timer off the list
-  pub settled-settles : Settles s p (settled_of s p)
+  pub settled_settles : Settles s p (settled_of s p)
   unfolding settled_of
-  settled-settles = settles-by (timer_at s p).life refl
+  settled_settles = settles_by (timer_at s p).life refl

@@ -9,27 +9,27 @@ use Rattle.state.specs.State.{fresh_of}
 use Rattle.state.specs.Faults.{sound_of}
 use Rattle.state.specs.Sound.{Sound}
 use Rattle.state.proofs.FreshSound.{fresh_sound}
-use Rattle.state.proofs.Test.{sound-tells}
+use Rattle.state.proofs.Test.{sound_tells}
 use Rattle.timers.specs.declared.Call.{Call}
 use Rattle.moves.specs.Rules.{drained_of}
 use Rattle.timers.specs.Calls.{step, after}
 use Rattle.laws.specs.Words.{Words, Fit}
 use Rattle.laws.proofs.PlaceByPlace.Words.{fresh_words}
-use Rattle.laws.proofs.Soundness.DrainSound.{drained-sound}
+use Rattle.laws.proofs.Soundness.DrainSound.{drained_sound}
 use Rattle.laws.proofs.AnyCall.CallsKeep.{step_keeps_it}
-use Rattle.laws.proofs.Soundness.CallsSound.{sound-kept, step_words}
+use Rattle.laws.proofs.Soundness.CallsSound.{sound_kept, step_words}
 use Rattle.laws.proofs.Soundness.AdvancedSound.{advanced_sound}
-use Rattle.laws.proofs.Soundness.ClosedSound.{closed-sound}
+use Rattle.laws.proofs.Soundness.ClosedSound.{closed_sound}
 
 -- every call keeps a sound set sound, whether it is accepted or not
 pub step_sound : (s : Set) → Sound s → Words s → (c : Call) (l : List ℕ) → Sound (step s c l).state.set
 step_sound s o w =
-    step_keeps_it Sound s (sound-kept s o)
+    step_keeps_it Sound s (sound_kept s o)
     (record {
-      drains = λ c. drained-sound s o c w;
+      drains = λ c. drained_sound s o c w;
       advances = λ N l _. advanced_sound s N l o;
-      turns = λ N l c. advanced_sound (drained_of s) N l (drained-sound s o c w);
-      closes = λ _. closed-sound s o;
+      turns = λ N l c. advanced_sound (drained_of s) N l (drained_sound s o c w);
+      closes = λ _. closed_sound s o;
     })
 
 -- so a call leads from a set that fits to one that fits
@@ -50,4 +50,4 @@ fresh_stays_sound cs = (after_fit cs fresh_of fresh_fit).sound
 
 -- so the test says yes of it, and refusal 1 never comes
 pub never_unsound : (cs : List (Call × List ℕ)) → sound_of (after cs fresh_of) ≡ true
-never_unsound cs = sound-tells (after cs fresh_of) (fresh_stays_sound cs)
+never_unsound cs = sound_tells (after cs fresh_of) (fresh_stays_sound cs)

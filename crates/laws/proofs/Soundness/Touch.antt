@@ -20,9 +20,9 @@ use Rattle.moves.specs.Rules.{waiting_by, head_by, touched_of}
 use Rattle.laws.proofs.Parts.OpenSlots.{Slots, slots_same}
 use Rattle.laws.proofs.Parts.Lives.{Lives, lives_live, lives_cancelled}
 use Rattle.laws.proofs.Parts.Change.{held_at, changed}
-use Rattle.laws.proofs.Parts.OpenSet.{Open, sound-open, open-sound, open-changed}
+use Rattle.laws.proofs.Parts.OpenSet.{Open, sound_open, open_sound, open_changed}
 use Rattle.laws.proofs.Parts.Ties.{Listed}
-use Rattle.laws.proofs.Parts.ListChange.{link_waits, list-stays, waits_here, list_pushed}
+use Rattle.laws.proofs.Parts.ListChange.{link_waits, list_stays, waits_here, list_pushed}
 
 -- the new life of a touched timer: live or cancelled, and not marked invalid
 abbrev pub Unmarked : Life → Type 0
@@ -51,14 +51,14 @@ module _ (s : Set) (p : ℕ) (l : Life) where
   abbrev after : Bool → Set
   after b = changed s s.heap p (touched_by b (timer_at s p) s.first l) (head_by b p s.first)
 
-  touch-slots : (b : Bool) → Slots s.heap (held_at s) → Slots s.heap (held_at (after b))
-  touch-slots b =
+  touch_slots : (b : Bool) → Slots s.heap (held_at s) → Slots s.heap (held_at (after b))
+  touch_slots b =
       slots_same s.heap (held_at s) (held_at (after b))
       (λ x. sym (sees (λ (u : Timer). u.held) no_timer s.timers p (touched_by b (timer_at s p) s.first l) refl x))
 
   module _ (long : length s.timers ≡ cap) (c : p < cap) where
     touch_listed : (b : Bool) → is_waiting (timer_at s p).waiting ≡ b → Listed s → Listed (after b)
-    touch_listed true e = list-stays s s.heap p (touched_by true (timer_at s p) s.first l) s.first refl refl
+    touch_listed true e = list_stays s s.heap p (touched_by true (timer_at s p) s.first l) s.first refl refl
     touch_listed false e =
         list_pushed s s.heap p (touched_by false (timer_at s p) s.first l) (head_by false p s.first) long c e refl refl
 
@@ -71,16 +71,16 @@ module _ (s : Set) (p : ℕ) (l : Life) where
         ∙ touched_waiting (is_waiting (timer_at s p).waiting) (timer_at s p) s.first refl
 
   -- the parts of a sound set that is open are kept
-  touched-open : Open s → p < cap → Unmarked l → Open (touched_of s p l)
+  touched_open : Open s → p < cap → Unmarked l → Open (touched_of s p l)
   unfolding touched_of
-  touched-open o c u = go (is_waiting (timer_at s p).waiting) refl
+  touched_open o c u = go (is_waiting (timer_at s p).waiting) refl
     where
       go : (b : Bool) → is_waiting (timer_at s p).waiting ≡ b → Open (after b)
       go b e =
-          open-changed s s.heap p (touched_by b (timer_at s p) s.first l) (head_by b p s.first) o c (touch-slots b o.slots)
+          open_changed s s.heap p (touched_by b (timer_at s p) s.first l) (head_by b p s.first) o c (touch_slots b o.slots)
           (touched_lives l (touched_by b (timer_at s p) s.first l) refl u (touched_waiting b (timer_at s p) s.first e))
           (touch_listed o.timers_long c b e o.listed)
 
   -- a touch with a life that is not marked keeps a set that is open sound
-  pub touched-sound : Sound s → s.closed ≡ false → p < cap → Unmarked l → Sound (touched_of s p l)
-  touched-sound o c b u = open-sound (touched_of s p l) (touched-open (sound-open s o c) b u)
+  pub touched_sound : Sound s → s.closed ≡ false → p < cap → Unmarked l → Sound (touched_of s p l)
+  touched_sound o c b u = open_sound (touched_of s p l) (touched_open (sound_open s o c) b u)

@@ -5,7 +5,7 @@ use mathlib.Core.List.{List}
 use Prim.Native.Nat.{ℕ}
 use Rattle.refusals.specs.Answer.{Outcome}
 use Rattle.state.specs.declared.Set.{Set}
-use Rattle.state.proofs.Test.{sound-tells}
+use Rattle.state.proofs.Test.{sound_tells}
 use Rattle.timers.specs.declared.Call.{Call}
 use Rattle.timers.specs.declared.Call.TheVariants as C
 use Rattle.timers.specs.Calls.{Value, lent, guarded, with_list, step, add_of, reset_of, cancel_of, drain_of, advance_of, turn_of, next_wake_of, poll_of, close_of, tick_at, restart_at}
@@ -16,7 +16,7 @@ use Rattle.laws.specs.Unguarded.{unguarded}
 module _ (s : Set) (f : Fit s) where
   passes : {S : Type 0} (k : S) (o : Outcome S Value) → guarded s k o ≡ o
   unfolding guarded
-  passes k o = rw (sound_none s (sound-tells s f.sound)) refl
+  passes k o = rw (sound_none s (sound_tells s f.sound)) refl
 
   pub step_same : (c : Call) (l : List ℕ) → step s c l ≡ unguarded s c l
   unfolding step add_of reset_of cancel_of drain_of advance_of turn_of next_wake_of poll_of close_of tick_at restart_at unguarded

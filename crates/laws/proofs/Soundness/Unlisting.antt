@@ -13,7 +13,7 @@ use Rattle.theory.specs.Counting.{count}
 use Rattle.theory.specs.Chain.{chain_okb}
 use Rattle.theory.proofs.Stores.{set_all}
 use Rattle.theory.proofs.Counting.{count_off, count_zero}
-use Rattle.theory.proofs.ChainTest.{ok-head}
+use Rattle.theory.proofs.ChainTest.{ok_head}
 use Rattle.theory.proofs.ChainChange.{pop_ok}
 use Rattle.heap.specs.Capacity.{cap}
 use Rattle.heap.specs.declared.Slot.{Slot}
@@ -45,31 +45,31 @@ module _ (s : Set) (c : Closing s) (p : ℕ) (first : head_of s.first ≡ some p
   chained = ap (chain_okb (waits_at s) (after_at s) cap) (sym first) ∙ c.listed
 
   -- it waits
-  head-waits : waits_at s p ≡ true
-  head-waits = ok-head (waits_at s) (after_at s) cap p chained
+  head_waits : waits_at s p ≡ true
+  head_waits = ok_head (waits_at s) (after_at s) cap p chained
 
-  head-below : p < cap
-  head-below = waits_below s p head-waits
+  head_below : p < cap
+  head_below = waits_below s p head_waits
 
-  taken-off : Timer
-  taken-off = record { life = marked_life (timer_at s p).life; waiting = No; held = Held.Nothing; uses = (timer_at s p).uses }
+  taken_off : Timer
+  taken_off = record { life = marked_life (timer_at s p).life; waiting = No; held = Held.Nothing; uses = (timer_at s p).uses }
 
   -- what it has once it is taken off, and all other timers have, all timers have
-  unlisted-all : (P : ℕ → Timer → Type 0) → P p taken-off → ((x : ℕ) → (x ≡ p → ⊥) → P x (timer_at s x)) → (x : ℕ) → P x (timer_at (unlisted_of s p) x)
-  unfolding unlisted_of taken-off
-  unlisted-all P here there x = set_all no_timer s.timers p taken-off (omega (arith, head-below, c.tied.timers_long)) P here there x
+  unlisted_all : (P : ℕ → Timer → Type 0) → P p taken_off → ((x : ℕ) → (x ≡ p → ⊥) → P x (timer_at s x)) → (x : ℕ) → P x (timer_at (unlisted_of s p) x)
+  unfolding unlisted_of taken_off
+  unlisted_all P here there x = set_all no_timer s.timers p taken_off (omega (arith, head_below, c.tied.timers_long)) P here there x
 
   -- it waits no more
-  off-waits : waits_at (unlisted_of s p) p ≡ false
+  off_waits : waits_at (unlisted_of s p) p ≡ false
   unfolding waits_at unlisted_of
-  off-waits =
-      ap (λ (t : Timer). ltb p cap && is_waiting t.waiting) (get_or-set_same s.timers p _ no_timer (omega (arith, head-below, c.tied.timers_long)))
+  off_waits =
+      ap (λ (t : Timer). ltb p cap && is_waiting t.waiting) (get_or-set_same s.timers p _ no_timer (omega (arith, head_below, c.tied.timers_long)))
       ∙ and-false (ltb p cap)
 
   -- the others do as before, in the same order
-  other-waits : (y : ℕ) → (y ≡ p → ⊥) → waits_at s y ≡ waits_at (unlisted_of s p) y
+  other_waits : (y : ℕ) → (y ≡ p → ⊥) → waits_at s y ≡ waits_at (unlisted_of s p) y
   unfolding waits_at unlisted_of
-  other-waits y n = ap (λ (t : Timer). ltb y cap && is_waiting t.waiting) (sym (get_or-set_other s.timers p y _ no_timer n))
+  other_waits y n = ap (λ (t : Timer). ltb y cap && is_waiting t.waiting) (sym (get_or-set_other s.timers p y _ no_timer n))
 
   other_after : (y : ℕ) → (y ≡ p → ⊥) → after_at s y ≡ after_at (unlisted_of s p) y
   unfolding after_at unlisted_of
@@ -80,25 +80,25 @@ module _ (s : Set) (c : Closing s) (p : ℕ) (first : head_of s.first ≡ some p
   off_head = head_next (timer_at s p).waiting
 
   -- one timer fewer waits
-  unlisted-count : count (waits_at s) cap ≡ suc (count (waits_at (unlisted_of s p)) cap)
-  unlisted-count = count_off (waits_at (unlisted_of s p)) (waits_at s) cap p (λ y n. sym (other-waits y n)) off-waits head-waits head-below
+  unlisted_count : count (waits_at s) cap ≡ suc (count (waits_at (unlisted_of s p)) cap)
+  unlisted_count = count_off (waits_at (unlisted_of s p)) (waits_at s) cap p (λ y n. sym (other_waits y n)) off_waits head_waits head_below
 
   -- the set is in the middle of a close still
-  unlisted-closing : Closing (unlisted_of s p)
-  unfolding unlisted_of taken-off
-  unlisted-closing = record {
+  unlisted_closing : Closing (unlisted_of s p)
+  unfolding unlisted_of taken_off
+  unlisted_closing = record {
     tied = record {
-      timers_long = length-set s.timers p taken-off ∙ c.tied.timers_long;
+      timers_long = length-set s.timers p taken_off ∙ c.tied.timers_long;
       heap_sound = c.tied.heap_sound;
-      names = unlisted-all
+      names = unlisted_all
           (λ x y. (q : Slot) → x < cap → y.held ≡ Held.At q → (e : Entry) × (lookup s.heap q.0 ≡ some e) × (e.place.0 ≡ x))
           (λ q b e. absurd (nothing_at refl e)) (λ x n q b e. c.tied.names x q b e);
       ranges = c.tied.ranges;
     };
     listed =
         ap (chain_okb (waits_at (unlisted_of s p)) (after_at (unlisted_of s p)) cap) off_head
-        ∙ (pop_ok (waits_at s) (waits_at (unlisted_of s p)) (after_at s) (after_at (unlisted_of s p)) cap p other-waits other_after head-below off-waits chained).0;
-    fine = unlisted-all (λ x y. x < cap → Fine true y) (λ b. marked_fine (timer_at s p) No (λ _. refl) (c.fine p b)) (λ x n. c.fine x);
+        ∙ (pop_ok (waits_at s) (waits_at (unlisted_of s p)) (after_at s) (after_at (unlisted_of s p)) cap p other_waits other_after head_below off_waits chained).0;
+    fine = unlisted_all (λ x y. x < cap → Fine true y) (λ b. marked_fine (timer_at s p) No (λ _. refl) (c.fine p b)) (λ x n. c.fine x);
   }
 
 -- after as many turns as timers wait the list is empty
@@ -109,7 +109,7 @@ unlist_all zero s c b = (c, go s.first refl)
     go : (f : First) → s.first ≡ f → s.first ≡ First.Nothing
     go First.Nothing e = e
     go (First.At x) e =
-        let w = head-waits s c x.0 (ap head_of e) in
+        let w = head_waits s c x.0 (ap head_of e) in
         absurd (count_zero (waits_at s) cap (omega arith) x.0 (waits_below s x.0 w) w)
 unlist_all (suc k) s c b = go s.first refl (λ p. unlist_all k (unlisted_of s p))
   where
@@ -119,4 +119,4 @@ unlist_all (suc k) s c b = go s.first refl (λ p. unlist_all k (unlisted_of s p)
         → Closing (list_turn s f (λ p. unlist_from k (unlisted_of s p))) × ((list_turn s f (λ p. unlist_from k (unlisted_of s p))).first ≡ First.Nothing)
     go First.Nothing e next = (c, e)
     go (First.At x) e next =
-        next x.0 (unlisted-closing s c x.0 (ap head_of e)) (omega (arith, unlisted-count s c x.0 (ap head_of e)))
+        next x.0 (unlisted_closing s c x.0 (ap head_of e)) (omega (arith, unlisted_count s c x.0 (ap head_of e)))

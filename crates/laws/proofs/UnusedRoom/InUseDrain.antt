@@ -9,7 +9,7 @@ use Rattle.refusals.specs.Answer.{Answer}
 use Rattle.heap.specs.declared.Slot.{Slot}
 use Rattle.heap.specs.declared.Heap.{Heap}
 use Rattle.heap.specs.Sound.{Sound}
-use Rattle.heap.proofs.Soundness.SoundKept.{push-sound, remove-sound}
+use Rattle.heap.proofs.Soundness.SoundKept.{push_sound_lem, remove_sound_lem}
 use Rattle.heap.specs.InUse as Heap
 use Rattle.heap.proofs.UnusedRoom.InUse.{push_sound_in_use, remove_sound_in_use}
 use Rattle.word.specs.Rules.{generation_of}
@@ -57,13 +57,13 @@ touched_alike r p l = by_alike (λ (a b : Set). Alike (touched_of a p l) (touche
 
 -- the heap without the entry that a timer holds
 module _ (g h : Heap) (r : Heap.Twins g h) (s : Sound h) where
-  dropped-twins : (d : Held) → Heap.Twins (dropped_of g d) (dropped_of h d)
-  dropped-twins Held.Nothing = r
-  dropped-twins (Held.At q) = (remove_sound_in_use g h r s q).states
+  dropped_twins : (d : Held) → Heap.Twins (dropped_of g d) (dropped_of h d)
+  dropped_twins Held.Nothing = r
+  dropped_twins (Held.At q) = (remove_sound_in_use g h r s q).states
 
   dropped_sound : (d : Held) → Sound (dropped_of h d)
   dropped_sound Held.Nothing = s
-  dropped_sound (Held.At q) = remove-sound h s q
+  dropped_sound (Held.At q) = remove_sound_lem h s q
 
 module _ (s : Set) (g : Heap) (r : Heap.Twins g s.heap) (h : Sound s.heap) (p : ℕ) (t : Timer) where
   -- the update, by whose place it is: both pushes answer the same slot
@@ -71,11 +71,11 @@ module _ (s : Set) (g : Heap) (r : Heap.Twins g s.heap) (h : Sound s.heap) (p : 
   settled_by_lem (Live w d) =
       let u = dropped_sound g s.heap r h t.held in
       let n = generation_of w in
-      let o = push_sound_in_use (dropped_of g t.held) (dropped_of s.heap t.held) (dropped-twins g s.heap r h t.held) u d n (record { 0 = p }) in
+      let o = push_sound_in_use (dropped_of g t.held) (dropped_of s.heap t.held) (dropped_twins g s.heap r h t.held) u d n (record { 0 = p }) in
       let q : Answer (Slot × ℕ) → List Timer = λ x. set s.timers p (record { life = Live w d; waiting = No; held = held_by x; uses = t.uses }) in
-      alike_with (settled_by s p t (Live w d)) _ _ o.states (push-sound (dropped_of s.heap t.held) u d n (record { 0 = p })) (ap q o.answers)
+      alike_with (settled_by s p t (Live w d)) _ _ o.states (push_sound_lem (dropped_of s.heap t.held) u d n (record { 0 = p })) (ap q o.answers)
   settled_by_lem (Cancelled w) =
-      alike (settled_by s p t (Cancelled w)) (dropped_of g t.held) (dropped-twins g s.heap r h t.held) (dropped_sound g s.heap r h t.held)
+      alike (settled_by s p t (Cancelled w)) (dropped_of g t.held) (dropped_twins g s.heap r h t.held) (dropped_sound g s.heap r h t.held)
   settled_by_lem Free = alike (settled_by s p t Free) g r h
   settled_by_lem Retired = alike (settled_by s p t Retired) g r h
 

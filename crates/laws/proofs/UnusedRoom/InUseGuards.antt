@@ -14,7 +14,7 @@ use Rattle.state.specs.declared.Handle.{Handle}
 use Rattle.state.specs.Faults.{fault_of, sound_of}
 use Rattle.state.specs.InUse.{Twins}
 use Rattle.state.proofs.PlaceTest.{ref_self}
-use Rattle.state.proofs.Parts.{ref-passed}
+use Rattle.state.proofs.Parts.{ref_passed}
 use Rattle.state.proofs.InUse.{by_heap, fault_in_use}
 use Rattle.timers.specs.Calls.{Value, Timing, judged, refusing, gives, guarded, opened, live_at, alive}
 use Rattle.laws.specs.InUse.{SameOutcome}
@@ -30,29 +30,29 @@ gives_same q v = record { answers = refl; states = q.twins }
 
 module _ {a b : Set} (r : Twins a b) where
   -- the test lets both through, as sets with sound heaps, or neither
-  pub guarded-same : {S : Type 0} (R : S → S → Type 0) {k j : S} {o q : Outcome S Value} → R k j → (Alike a b → SameOutcome R o q)
+  pub guarded_same : {S : Type 0} (R : S → S → Type 0) {k j : S} {o q : Outcome S Value} → R k j → (Alike a b → SameOutcome R o q)
       → SameOutcome R (guarded a k o) (guarded b j q)
   unfolding guarded sound_of
-  guarded-same R {k} {j} {o} {q} e f =
+  guarded_same R {k} {j} {o} {q} e f =
       subst (λ (x : Option Fault). SameOutcome R (judged x o (λ y. refusing k (Unsound y))) (judged (fault_of b) q (λ y. refusing j (Unsound y))))
       (sym (fault_in_use r)) (go (fault_of b) refl)
     where
       go : (x : Option Fault) → fault_of b ≡ x → SameOutcome R (judged x o (λ y. refusing k (Unsound y))) (judged x q (λ y. refusing j (Unsound y)))
-      go none n = f (record { twins = r; sound = (ref_true (ref-passed b r.right.entries_long r.right.slots_long) (ap clear n)).heap })
+      go none n = f (record { twins = r; sound = (ref_true (ref_passed b r.right.entries_long r.right.slots_long) (ap clear n)).heap })
       go (some y) n = kept_same R e (refuse (Unsound y))
 
   -- and then where they are open
-  pub open-same : {S : Type 0} (R : S → S → Type 0) {k j : S} {o q : Outcome S Value} → R k j → (Alike a b → SameOutcome R o q)
+  pub open_same : {S : Type 0} (R : S → S → Type 0) {k j : S} {o q : Outcome S Value} → R k j → (Alike a b → SameOutcome R o q)
       → SameOutcome R (guarded a k (opened a k o)) (guarded b j (opened b j q))
-  open-same R e f =
-      guarded-same R e
+  open_same R e f =
+      guarded_same R e
       (λ q. choose_ref (SameOutcome R) r.same.same_closed (ref_self b.closed) (λ _. kept_same R e (refuse Closed)) (λ _. f q))
 
   -- a handle names the same in both
-  pub alive-same : (h : Handle) {f g : Timing → Outcome Set Value} → ((t : Timing) → SameOutcome Twins (f t) (g t))
+  pub alive_same : (h : Handle) {f g : Timing → Outcome Set Value} → ((t : Timing) → SameOutcome Twins (f t) (g t))
       → SameOutcome Twins (alive a (live_at a h) f) (alive b (live_at b h) g)
   unfolding live_at
-  alive-same h {f} {g} e =
+  alive_same h {f} {g} e =
       subst (λ (x : Option Timing). SameOutcome Twins (alive a x f) (alive b (live_at b h) g)) (sym named) (go (live_at b h))
     where
       named : live_at a h ≡ live_at b h

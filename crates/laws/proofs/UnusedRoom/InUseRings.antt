@@ -18,8 +18,8 @@ use Rattle.heap.specs.Sound.{Sound}
 use Rattle.heap.specs.Calls.{Off, pop_sound}
 use Rattle.heap.proofs.AsList.Items.{and_same}
 use Rattle.heap.proofs.Slots.Slab.{sound_slab}
-use Rattle.heap.proofs.Slots.Kept.{pop_head, remove-len}
-use Rattle.heap.proofs.Soundness.SoundKept.{pop-sound}
+use Rattle.heap.proofs.Slots.Kept.{pop_head, remove_len}
+use Rattle.heap.proofs.Soundness.SoundKept.{pop_sound_lem}
 use Rattle.heap.specs.InUse as Heap
 use Rattle.heap.proofs.UnusedRoom.InUseWalks.{choose_ref}
 use Rattle.heap.proofs.UnusedRoom.InUse.{pop_sound_in_use}
@@ -57,7 +57,7 @@ unfolding rung_of
 rung_over r g t h b =
     subst (λ (e : Entry). SameRing (rung_by (ring_over r g) e) (rung_of r)) (sym (t.same.entries 0 b))
     (record {
-      sets = alike (rung_of r).set (pop_sound g).state (pop_sound_in_use g r.set.heap t h).states (pop-sound r.set.heap h);
+      sets = alike (rung_of r).set (pop_sound g).state (pop_sound_in_use g r.set.heap t h).states (pop_sound_lem r.set.heap h);
       lists = refl;
       reported = refl;
       popped = refl;
@@ -107,7 +107,7 @@ unfolding popped_of
 popped_alike r =
     by_alike (λ (a b : Set). 0 < b.heap.len → Alike (popped_of a) (popped_of b))
     (λ s g t h b. subst (λ (e : Entry). Alike (popped_by (over s g) e) (popped_of s)) (sym (t.same.entries 0 b))
-    (alike (popped_of s) (pop_sound g).state (pop_sound_in_use g s.heap t h).states (pop-sound s.heap h)))
+    (alike (popped_of s) (pop_sound g).state (pop_sound_in_use g s.heap t h).states (pop_sound_lem s.heap h)))
     r
 
 -- and its heap has one entry less
@@ -116,7 +116,7 @@ unfolding popped_of
 popped_len s h b =
     let c = sound_slab s.heap h in
     ap (λ (o : Outcome Heap Off). o.state.len) (pop_head s.heap c b)
-    ∙ remove-len s.heap c (entry_at s.heap 0).slot (record { 0 = 0 }) (c.forth 0 b).0 (c.forth 0 b).1
+    ∙ remove_len s.heap c (entry_at s.heap 0).slot (record { 0 = 0 }) (c.forth 0 b).0 (c.forth 0 b).1
 
 -- as many pops as there are entries, or fewer
 empty_alike : (k : ℕ) {a b : Set} → Alike a b → k ≤ b.heap.len → Alike (empty_from k a) (empty_from k b)

@@ -24,7 +24,7 @@ use Rattle.laws.specs.Words.{Words}
 use Rattle.laws.specs.Widths.{Given, IsTime}
 use Rattle.laws.proofs.AnyCall.Found.{reset_small, live_in}
 use Rattle.laws.proofs.AnyCall.CallsKeep.{step_keeps_of}
-use Rattle.laws.proofs.Widths.Turns.{Wide, touched-wide, drained_wide, advanced_wide, closed_wide}
+use Rattle.laws.proofs.Widths.Turns.{Wide, touched_wide, drained_wide, advanced_wide, closed_wide}
 
 -- past the last place there is one that nobody has used
 wide_timer : (s : Set) → length s.timers ≡ cap → Widths s → (p : ℕ) → TimerWidths (timer_at s p)
@@ -49,20 +49,20 @@ module _ (s : Set) (ok : Sound s) (w : Widths s) where
       b.0
 
   -- and so its words are those that the code's type has
-  pub widths-words : Words s
-  widths-words = record {
+  pub widths_words : Words s
+  widths_words = record {
     long = ok.timers_long;
     small = λ p b. record { bits = λ v d e. let c : LifeWidths (Live v d) = subst LifeWidths e (w.timers_in p b).life_in in c.0 };
   }
 
-  step-wide : (c : Call) → Given IsTime c → (l : List ℕ) → Wide (step s c l).state.set
-  step-wide =
+  step_wide : (c : Call) → Given IsTime c → (l : List ℕ) → Wide (step s c l).state.set
+  step_wide =
       step_keeps_of IsTime (λ d b. b) Wide s
       (record {
         now = wide;
-        adds = λ p d b _ _. touched-wide s wide p (Live 0 d) (omega arith, b);
-        resets = λ h t d b _ _. touched-wide s wide h.place.0 (Live (Word.reset_of t.word) d) (reset_small t.word, b);
-        cancels = λ h t _ e. touched-wide s wide h.place.0 (Cancelled t.word) (live_word_lem h t e);
+        adds = λ p d b _ _. touched_wide s wide p (Live 0 d) (omega arith, b);
+        resets = λ h t d b _ _. touched_wide s wide h.place.0 (Live (Word.reset_of t.word) d) (reset_small t.word, b);
+        cancels = λ h t _ e. touched_wide s wide h.place.0 (Cancelled t.word) (live_word_lem h t e);
       })
       (record {
         drains = λ _. drained_wide s wide;
@@ -72,11 +72,11 @@ module _ (s : Set) (ok : Sound s) (w : Widths s) where
       })
 
   -- every call keeps them
-  pub step-widths : (c : Call) → Given IsTime c → (l : List ℕ) → Widths (step s c l).state.set
-  step-widths c g l =
-      let r = step-wide c g l in record { entries_in_range = r.heap_timed.each; timers_in = λ p _. r.each_timer p }
+  pub step_widths : (c : Call) → Given IsTime c → (l : List ℕ) → Widths (step s c l).state.set
+  step_widths c g l =
+      let r = step_wide c g l in record { entries_in_range = r.heap_timed.each; timers_in = λ p _. r.each_timer p }
 
   -- and so does a drain by itself
-  pub drained-widths : Widths (drained_of s)
-  drained-widths =
+  pub drained_widths : Widths (drained_of s)
+  drained_widths =
       let r = drained_wide s wide in record { entries_in_range = r.heap_timed.each; timers_in = λ p _. r.each_timer p }

@@ -18,10 +18,10 @@ use Rattle.timers.specs.Values.{reports_in}
 use Rattle.moves.specs.Rules.{drained_of, advanced_of}
 use Rattle.timers.specs.Calls.{Value, turn_of}
 use Rattle.laws.proofs.AnyCall.CallCases.{turn_by}
-use Rattle.laws.proofs.Soundness.DrainSound.{drained-sound}
+use Rattle.laws.proofs.Soundness.DrainSound.{drained_sound}
 use Rattle.laws.proofs.Soundness.AdvancedSound.{advanced_counts}
 use Rattle.laws.proofs.Reporting.AdvancedList.{rest_kept, advanced_rest, advanced_words}
-use Rattle.laws.proofs.Widths.Calls.{widths-words, drained-widths}
+use Rattle.laws.proofs.Widths.Calls.{widths_words, drained_widths}
 
 -- a list m that was l, with n reports
 pub record Lists (n : ℕ) (l m : List ℕ) : Type 0 where
@@ -38,10 +38,10 @@ unreported (unsound f) l e = record { long = refl; within = omega arith; rest = 
 
 module _ (s : Set) (ok : Sound s) (w : Widths s) where
   -- an advance after a drain
-  rung-list : s.closed ≡ false → (N : ℕ) (l : List ℕ) → cap ≤ length l
+  rung_list : s.closed ≡ false → (N : ℕ) (l : List ℕ) → cap ≤ length l
       → let r = advanced_of (drained_of s) N l in Lists r.reported l r.list
-  rung-list c N l room =
-      let d = drained-sound s ok c (widths-words s ok w) in
+  rung_list c N l room =
+      let d = drained_sound s ok c (widths_words s ok w) in
       let k = rest_kept (drained_of s) l (advanced_of (drained_of s) N l) (advanced_rest (drained_of s) N l d) in
       let n = advanced_counts (drained_of s) N l d in
       record {
@@ -50,7 +50,7 @@ module _ (s : Set) (ok : Sound s) (w : Widths s) where
         rest = k.1;
         small = λ i b.
             let h = advanced_words (drained_of s) N l d room i b in
-            let u = ((drained-widths s ok w).timers_in h.at h.in_range).uses_in in
+            let u = ((drained_widths s ok w).timers_in h.at h.in_range).uses_in in
             omega (
               arith,
               h.is_word,
@@ -59,6 +59,6 @@ module _ (s : Set) (ok : Sound s) (w : Widths s) where
       }
 
   -- a turn
-  pub turn-list : (N : ℕ) (l : List ℕ) → let o = turn_of s N l in Lists (reports_in o.answer) l o.state.list
-  turn-list N l =
-      turn_by (λ o. Lists (reports_in o.answer) l o.state.list) s l (λ a e. unreported a l e) N (λ a room. rung-list a.still_open N l room)
+  pub turn_list : (N : ℕ) (l : List ℕ) → let o = turn_of s N l in Lists (reports_in o.answer) l o.state.list
+  turn_list N l =
+      turn_by (λ o. Lists (reports_in o.answer) l o.state.list) s l (λ a e. unreported a l e) N (λ a room. rung_list a.still_open N l room)

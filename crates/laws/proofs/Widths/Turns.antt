@@ -12,7 +12,7 @@ use Rattle.heap.specs.declared.Heap.{Heap}
 use Rattle.heap.specs.Rules.{entry_at}
 use Rattle.heap.specs.Sound.{Sound}
 use Rattle.heap.specs.Calls.{push_sound, pop_sound}
-use Rattle.heap.proofs.Soundness.SoundKept.{push-sound, remove-sound, pop-sound}
+use Rattle.heap.proofs.Soundness.SoundKept.{push_sound_lem, remove_sound_lem, pop_sound_lem}
 use Rattle.heap.proofs.Soundness.EachEntry.{Each, push_each, remove_each, pop_each}
 use Rattle.word.specs.Rules.{generation_of, fired_of, matches_in}
 use Rattle.state.specs.declared.Life.{Life}
@@ -48,18 +48,18 @@ pub record Wide (s : Set) : Type 0 where
 -- without the entry that a timer holds
 dropped_timed : (h : Heap) (d : Held) → TimedHeap h → TimedHeap (dropped_of h d)
 dropped_timed h Held.Nothing t = t
-dropped_timed h (Held.At q) t = record { sound = remove-sound h t.sound q; each = remove_each Timed h t.each t.sound q }
+dropped_timed h (Held.At q) t = record { sound = remove_sound_lem h t.sound q; each = remove_each Timed h t.each t.sound q }
 
 -- with a new one
 pushed_timed : (h : Heap) (d g p : ℕ) → TimedHeap h → IsTime d → TimedHeap (push_sound h d g (record { 0 = p })).state
 pushed_timed h d g p t b = record {
-  sound = push-sound h t.sound d g (record { 0 = p });
+  sound = push_sound_lem h t.sound d g (record { 0 = p });
   each = push_each Timed h t.each t.sound d g (record { 0 = p }) b;
 }
 
 -- without its head
 popped_timed : (h : Heap) → TimedHeap h → TimedHeap (pop_sound h).state
-popped_timed h t = record { sound = pop-sound h t.sound; each = pop_each Timed h t.each t.sound }
+popped_timed h t = record { sound = pop_sound_lem h t.sound; each = pop_each Timed h t.each t.sound }
 
 -- THE TIMERS
 
@@ -102,9 +102,9 @@ wide_changed s h p t f w heap new = record {
 
 module _ (s : Set) (w : Wide s) where
   -- a touch
-  pub touched-wide : (p : ℕ) (l : Life) → LifeWidths l → Wide (touched_of s p l)
+  pub touched_wide : (p : ℕ) (l : Life) → LifeWidths l → Wide (touched_of s p l)
   unfolding touched_of
-  touched-wide p l b =
+  touched_wide p l b =
       wide_changed s s.heap p (record {
         life = l;
         waiting = waiting_by (is_waiting (timer_at s p).waiting) (timer_at s p) s.first;

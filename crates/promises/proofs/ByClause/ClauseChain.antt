@@ -16,8 +16,8 @@ use Rattle.theory.specs.Chain.{unless, nodes, Chain, chain_okb}
 use Rattle.theory.proofs.Tests.{ref_eq, ref_and, ref_map, ref_true, by-ref, none_some, and_left, and_right, true_ref, ref_lt}
 use Rattle.theory.proofs.Counting.{count_le}
 use Rattle.theory.proofs.Pigeonhole.{lists_length}
-use Rattle.theory.proofs.Chain.{chain-distinct, chain-ok}
-use Rattle.theory.proofs.ChainTest.{ok-lists, lists_ok}
+use Rattle.theory.proofs.Chain.{chain_distinct, chain_ok}
+use Rattle.theory.proofs.ChainTest.{ok_lists, lists_ok}
 use Rattle.heap.specs.Capacity.{cap}
 use Rattle.heap.specs.declared.SlotState.{SlotState}
 use Rattle.heap.specs.declared.SlotState.TheVariants.{Full, Empty}
@@ -28,7 +28,7 @@ use Rattle.state.specs.declared.Set.{Set}
 use Rattle.state.proofs.PlaceTest.{ref_self}
 use Rattle.promises.specs.Clauses.{there, times, ends_in, next_free, slot_in, met_free, chained}
 use Rattle.promises.proofs.ByClause.ClauseLists.{ref_any, ref_mem, distinct_once, ends_tail, ends_last, mem_last, nodes_none}
-use Rattle.promises.proofs.ByClause.ClauseHeap.{slot_in_range, slot-out, in_slot, ref-slab}
+use Rattle.promises.proofs.ByClause.ClauseHeap.{slot_in_range, slot_out, in_slot, ref_slab}
 
 -- a link that is kept as a number: the end is none, and another number is itself
 unless_end : (m f : ℕ) → f ≡ m → unless m f ≡ none
@@ -59,9 +59,9 @@ module _ (s : Set) (m : length s.heap.entries ≡ cap) (k : length s.heap.slots 
   link q = there none next_free (slot_in s.heap q)
 
   -- a slot with a link was made and is empty, and names it for the heap's own test too
-  link-some : (q n : ℕ) → link q ≡ some n → (empty_at s.heap q ≡ true) × (next_at s.heap q ≡ unless s.heap.made n)
+  link_some : (q n : ℕ) → link q ≡ some n → (empty_at s.heap q ≡ true) × (next_at s.heap q ≡ unless s.heap.made n)
   unfolding empty_at next_at
-  link-some q n e = go (slot_in s.heap q) refl e
+  link_some q n e = go (slot_in s.heap q) refl e
     where
       go : (o : Option SlotState) → slot_in s.heap q ≡ o → there none next_free o ≡ some n
           → (ltb q s.heap.made && not (is_full (state_at s.heap q)) ≡ true) × (link_of s.heap.made (state_at s.heap q) ≡ unless s.heap.made n)
@@ -72,35 +72,35 @@ module _ (s : Set) (m : length s.heap.entries ≡ cap) (k : length s.heap.slots 
           (rw (lt-ltb q s.heap.made r.0, z) refl, ap (link_of s.heap.made) z)
 
   -- an empty slot has a link
-  empty-link : (q : ℕ) → empty_at s.heap q ≡ true → (n : ℕ) × (link q ≡ some n)
+  empty_link : (q : ℕ) → empty_at s.heap q ≡ true → (n : ℕ) × (link q ≡ some n)
   unfolding empty_at
-  empty-link q e =
+  empty_link q e =
       let r = not_full (state_at s.heap q) (and_right (ltb q s.heap.made) _ e) in
       (r.0, ap (there none next_free) (slot_in_range s m k a b q (ltb-true q s.heap.made (and_left _ _ e))) ∙ r.1)
 
   -- along a chain of empty slots its nodes are met, and last the number of slots so far
-  chain-met : (l : List ℕ) (n f : ℕ) → Chain (empty_at s.heap) (next_at s.heap) (unless s.heap.made f) l → length l < n
+  chain_met : (l : List ℕ) (n f : ℕ) → Chain (empty_at s.heap) (next_at s.heap) (unless s.heap.made f) l → length l < n
       → nodes link n (some f) ≡ l ++ (s.heap.made ∷ [])
   unfolding nodes
-  chain-met l zero f c h = absurd (omega arith)
-  chain-met [] (suc n) f c h =
+  chain_met l zero f c h = absurd (omega arith)
+  chain_met [] (suc n) f c h =
       let e = end_unless s.heap.made f c in
-      let z : link f ≡ none = ap (there none next_free) (slot-out s m k a b f (omega arith)) in
+      let z : link f ≡ none = ap (there none next_free) (slot_out s m k a b f (omega arith)) in
       rw (z, e) (ap (◌∷◌ s.heap.made) (nodes_none link n))
-  chain-met (x ∷ l) (suc n) f c h =
+  chain_met (x ∷ l) (suc n) f c h =
       let e = other_unless s.heap.made f x c.0 in
-      let r = empty-link x c.1 in
-      let d = subst (λ (o : Option ℕ). Chain (empty_at s.heap) (next_at s.heap) o l) (link-some x r.0 r.1).1 c.2 in
+      let r = empty_link x c.1 in
+      let d = subst (λ (o : Option ℕ). Chain (empty_at s.heap) (next_at s.heap) o l) (link_some x r.0 r.1).1 c.2 in
       let z : link f ≡ some r.0 = ap link e ∙ r.1 in
-      rw (z, e) (ap (◌∷◌ x) (chain-met l n r.0 d (omega arith)))
+      rw (z, e) (ap (◌∷◌ x) (chain_met l n r.0 d (omega arith)))
 
   -- where the numbers met end in the number of slots so far, those before it are a chain of empty slots
-  met-chain : (n f : ℕ) → ends_in s.heap.made (nodes link n (some f)) ≡ true
+  met_chain : (n f : ℕ) → ends_in s.heap.made (nodes link n (some f)) ≡ true
       → (l : List ℕ) × Chain (empty_at s.heap) (next_at s.heap) (unless s.heap.made f) l
       × (nodes link n (some f) ≡ l ++ (s.heap.made ∷ []))
   unfolding nodes
-  met-chain zero f e = absurd (false≢true e)
-  met-chain (suc n) f e = go (link f) refl e (met-chain n)
+  met_chain zero f e = absurd (false≢true e)
+  met_chain (suc n) f e = go (link f) refl e (met_chain n)
     where
       go : (o : Option ℕ) → link f ≡ o → ends_in s.heap.made (f ∷ nodes link n o) ≡ true
           → ((g : ℕ) → ends_in s.heap.made (nodes link n (some g)) ≡ true
@@ -114,7 +114,7 @@ module _ (s : Set) (m : length s.heap.entries ≡ cap) (k : length s.heap.slots 
           (λ q. absurd (false≢true (sym (ap (ends_in s.heap.made) (nodes_none link n)) ∙ q)))
           (ends_tail s.heap.made f (nodes link n none) e)
       go (some g) h e r =
-          let t = link-some f g h in
+          let t = link_some f g h in
           let l = empty_made s.heap f t.0 in
           ⊎_elim
           (λ q. absurd (omega arith))
@@ -139,28 +139,28 @@ module _ (s : Set) (m : length s.heap.entries ≡ cap) (k : length s.heap.slots 
       → Ref (empty_at s.heap q ≡ true → times q met ≡ 1) (there true (λ n. eqb (times q met) 1) (next_free (state_at s.heap q)))
   ref_once q l =
       ref_map (ref_any (λ n. times q met ≡ 1) (λ n. eqb (times q met) 1) (next_free (state_at s.heap q)) (λ n. ref_eq (times q met) 1))
-      (λ t e. let r = empty-link q e in t r.0 (sym (ap (there none next_free) (slot_in_range s m k a b q l)) ∙ r.1))
-      (λ t n e. t (link-some q n (ap (there none next_free) (slot_in_range s m k a b q l) ∙ e)).0)
+      (λ t e. let r = empty_link q e in t r.0 (sym (ap (there none next_free) (slot_in_range s m k a b q l)) ∙ r.1))
+      (λ t n e. t (link_some q n (ap (there none next_free) (slot_in_range s m k a b q l) ∙ e)).0)
 
   -- 16: the free chain meets each empty slot once and ends at the number of slots
-  pub ref-chained : Ref (chain_okb (empty_at s.heap) (next_at s.heap) s.heap.made (unless s.heap.made s.heap.free.0) ≡ true) (chained s)
-  ref-chained =
-      ref_map (ref_and (ref-slab s m k a b _ _ ref_once) (ref_self (ends_in s.heap.made met)))
+  pub ref_chained : Ref (chain_okb (empty_at s.heap) (next_at s.heap) s.heap.made (unless s.heap.made s.heap.free.0) ≡ true) (chained s)
+  ref_chained =
+      ref_map (ref_and (ref_slab s m k a b _ _ ref_once) (ref_self (ends_in s.heap.made met)))
       (λ t.
-      let r = met-chain (suc (suc cap)) s.heap.free.0 t.1 in
+      let r = met_chain (suc (suc cap)) s.heap.free.0 t.1 in
       lists_ok (empty_at s.heap) (next_at s.heap) s.heap.made (unless s.heap.made s.heap.free.0) r.0 r.1
       (record {
-        once = chain-distinct (empty_at s.heap) (next_at s.heap) r.0 _ r.1;
-        sound = λ x i. let e = chain-ok (empty_at s.heap) (next_at s.heap) r.0 _ r.1 x i in (empty_made s.heap x e, e);
+        once = chain_distinct (empty_at s.heap) (next_at s.heap) r.0 _ r.1;
+        sound = λ x i. let e = chain_ok (empty_at s.heap) (next_at s.heap) r.0 _ r.1 x i in (empty_made s.heap x e, e);
         whole = λ x l e.
             let z = sym (mem_last s.heap.made x r.0 (λ q. omega arith)) ∙ sym (ap (times x) r.2) ∙ t.0 x l e in
             ref_true (ref_mem x r.0) (true_ref (ref_lt 0 (times x r.0)) (omega arith));
       }))
       (λ t.
-      let r = ok-lists (empty_at s.heap) (next_at s.heap) s.heap.made (empty_made s.heap) (unless s.heap.made s.heap.free.0) t in
+      let r = ok_lists (empty_at s.heap) (next_at s.heap) s.heap.made (empty_made s.heap) (unless s.heap.made s.heap.free.0) t in
       let n = lists_length r.0 (empty_at s.heap) s.heap.made r.2 in
       let c = count_le (empty_at s.heap) s.heap.made in
-      let e = chain-met r.0 (suc (suc cap)) s.heap.free.0 r.1 (omega arith) in (
+      let e = chain_met r.0 (suc (suc cap)) s.heap.free.0 r.1 (omega arith) in (
         (λ q l f.
             ap (times q) e ∙ mem_last s.heap.made q r.0 (λ z. omega arith)
             ∙ distinct_once r.0 r.2.once q (r.2.whole q l f)),

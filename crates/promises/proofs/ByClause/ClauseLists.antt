@@ -198,19 +198,19 @@ nodes_same f g e (suc n) (some x) = ap (◌∷◌ x) (nodes_same f g e n (f x) �
 
 module _ (ok : ℕ → Bool) (next : ℕ → Option ℕ) where
   -- a chain that is no longer than may be met is what is met
-  pub chain-met : (l : List ℕ) (h : Option ℕ) (n : ℕ) → Chain ok next h l → length l ≤ n → nodes next n h ≡ l
+  pub chain_met : (l : List ℕ) (h : Option ℕ) (n : ℕ) → Chain ok next h l → length l ≤ n → nodes next n h ≡ l
   unfolding nodes
-  chain-met [] h n c b = ap (nodes next n) c ∙ nodes_none next n
-  chain-met (x ∷ l) h zero c b = absurd (omega arith)
-  chain-met (x ∷ l) h (suc n) c b = rw c.0 (ap (◌∷◌ x) (chain-met l (next x) n c.2 (omega arith)))
+  chain_met [] h n c b = ap (nodes next n) c ∙ nodes_none next n
+  chain_met (x ∷ l) h zero c b = absurd (omega arith)
+  chain_met (x ∷ l) h (suc n) c b = rw c.0 (ap (◌∷◌ x) (chain_met l (next x) n c.2 (omega arith)))
 
   -- where fewer are met than may be, and all pass, they are a chain
-  pub met-chain : (n : ℕ) (h : Option ℕ) → length (nodes next n h) < n → ((x : ℕ) → Mem x (nodes next n h) → ok x ≡ true)
+  pub met_chain : (n : ℕ) (h : Option ℕ) → length (nodes next n h) < n → ((x : ℕ) → Mem x (nodes next n h) → ok x ≡ true)
       → Chain ok next h (nodes next n h)
   unfolding nodes
-  met-chain zero h b p = absurd (omega arith)
-  met-chain (suc n) none b p = refl
-  met-chain (suc n) (some x) b p = (refl, p x (inl refl), met-chain n (next x) (omega arith) (λ y m. p y (inr m)))
+  met_chain zero h b p = absurd (omega arith)
+  met_chain (suc n) none b p = refl
+  met_chain (suc n) (some x) b p = (refl, p x (inl refl), met_chain n (next x) (omega arith) (λ y m. p y (inr m)))
 
 -- the count from the front: the first number, and the others
 pub count_front : (f : ℕ → Bool) (n : ℕ) → count f (suc n) ≡ bit (f 0) + count (λ i. f (suc i)) n

@@ -21,10 +21,10 @@ use Rattle.state.specs.Sound.{Unused, Sound}
 use Rattle.state.proofs.PlaceTest.{held_some}
 use Rattle.promises.specs.Clauses.{slot_of, own_slots, own_entries, listed, is_free, is_retired, none_held, none_listed}
 use Rattle.promises.proofs.ByClause.ClauseLists.{distinct_once}
-use Rattle.promises.proofs.ByClause.ClauseHeap.{ref-counted, ref-positioned, ref-ordered}
-use Rattle.promises.proofs.ByClause.ClauseChain.{ref-chained}
-use Rattle.promises.proofs.ByClause.ClauseTimers.{waits_marked, marked_waits, live_word_lem, cancelled_word_lem, in-timer, ref-waiters, ref-only, ref_once, ok-listed, ref-live, ref-cancelled, ref-closed-list, ref-none-listed, ref-cancelled-listed}
-use Rattle.promises.proofs.ByClause.ClauseOwners.{slot_held, stands-in, in-stands, ref-own-slots, ref-own-entries, ref-closed-heap, ref-none-held, ref-generations, ref-places}
+use Rattle.promises.proofs.ByClause.ClauseHeap.{ref_counted, ref_positioned, ref_ordered}
+use Rattle.promises.proofs.ByClause.ClauseChain.{ref_chained}
+use Rattle.promises.proofs.ByClause.ClauseTimers.{waits_marked, marked_waits, live_word_lem, cancelled_word_lem, in_timer, ref_waiters, ref_only, ref_once, ok_listed, ref_live, ref_cancelled, ref_closed_list, ref_none_listed, ref_cancelled_listed}
+use Rattle.promises.proofs.ByClause.ClauseOwners.{slot_held, stands_in, in_stands, ref_own_slots, ref_own_entries, ref_closed_heap, ref_none_held, ref_generations, ref_places}
 use Rattle.promises.proofs.ByClause.ClauseKept.{Kept}
 
 -- what the two kinds of places out of use are
@@ -45,90 +45,90 @@ module _ (s : Set) (n : length s.timers ≡ cap) (m : length s.heap.entries ≡ 
   within : s.heap.len ≤ cap
   within = g.heap_sound.len_in
 
-  slots-within : s.heap.made ≤ cap
-  slots-within = g.heap_sound.made_in
+  slots_within : s.heap.made ≤ cap
+  slots_within = g.heap_sound.made_in
 
   -- the places met from the list's head on are those that wait, each once
   lists : Lists (waits_at s) cap (listed s)
-  lists = ok-listed s n g.listed
+  lists = ok_listed s n g.listed
 
   -- no entry is held for a kind of places that are unused, and none of them is in the list
-  none-held : (kind : Life → Bool) → ((p : ℕ) → p < cap → kind (timer_at s p).life ≡ true → Unused (timer_at s p)) → none_held kind s ≡ true
-  none-held kind u =
-      true_ref (ref-none-held s n m k within slots-within kind)
+  none_held_lem : (kind : Life → Bool) → ((p : ℕ) → p < cap → kind (timer_at s p).life ≡ true → Unused (timer_at s p)) → none_held kind s ≡ true
+  none_held_lem kind u =
+      true_ref (ref_none_held s n m k within slots_within kind)
       (λ i l t e.
       let p = (entry_at s.heap i).place.0 in
-      let r = in-timer s n p t e in
+      let r = in_timer s n p t e in
       is_false (kind t.life)
       (λ z. held_some (g.entry_own i l) (u p r.0 (ap (λ (x : Timer). kind x.life) r.1 ∙ z)).bare))
 
-  none-listed : (kind : Life → Bool) → ((p : ℕ) → p < cap → kind (timer_at s p).life ≡ true → Unused (timer_at s p)) → none_listed kind s ≡ true
-  none-listed kind u =
-      true_ref (ref-none-listed s n kind)
+  none_listed_lem : (kind : Life → Bool) → ((p : ℕ) → p < cap → kind (timer_at s p).life ≡ true → Unused (timer_at s p)) → none_listed kind s ≡ true
+  none_listed_lem kind u =
+      true_ref (ref_none_listed s n kind)
       (λ p i t e.
-      let r = in-timer s n p t e in
+      let r = in_timer s n p t e in
       is_false (kind t.life)
       (λ z.
       true_false (waits_marked s p (lists.sound p i).1)
       (ap is_waiting (u p r.0 (ap (λ (x : Timer). kind x.life) r.1 ∙ z)).still)))
 
   -- a free place is unused, and a retired one
-  free-out : (p : ℕ) → p < cap → is_free (timer_at s p).life ≡ true → Unused (timer_at s p)
-  free-out p l e = g.free_unused p l (free_kind (timer_at s p).life e)
+  free_out : (p : ℕ) → p < cap → is_free (timer_at s p).life ≡ true → Unused (timer_at s p)
+  free_out p l e = g.free_unused p l (free_kind (timer_at s p).life e)
 
-  retired-out : (p : ℕ) → p < cap → is_retired (timer_at s p).life ≡ true → Unused (timer_at s p)
-  retired-out p l e = g.retired_unused p l (retired_kind (timer_at s p).life e)
+  retired_out : (p : ℕ) → p < cap → is_retired (timer_at s p).life ≡ true → Unused (timer_at s p)
+  retired_out p l e = g.retired_unused p l (retired_kind (timer_at s p).life e)
 
   -- a timer that names a slot finds its own entry there
-  own-slots : own_slots s ≡ true
-  own-slots =
-      true_ref (ref-own-slots s n m k within slots-within)
+  own_slots_lem : own_slots s ≡ true
+  own_slots_lem =
+      true_ref (ref_own_slots s n m k within slots_within)
       (λ p l q e.
       let o = g.slot_own p (record { 0 = q }) l (slot_held (timer_at s p).held q e) in
       let f = full_back s.heap g.heap_sound q o.where_it_stands o.made o.full in (
         entry_at s.heap o.where_it_stands.0,
-        stands-in s n m k within slots-within q o.where_it_stands o.made o.full f.0,
+        stands_in s n m k within slots_within q o.where_it_stands o.made o.full f.0,
         o.own,
       ))
 
   -- a timer whose place an entry holds names that entry's slot
-  own-entries : own_entries s ≡ true
-  own-entries =
-      true_ref (ref-own-entries s n m k within slots-within)
+  own_entries_lem : own_entries s ≡ true
+  own_entries_lem =
+      true_ref (ref_own_entries s n m k within slots_within)
       (λ q l e h t z.
-      let d = in-stands s n m k within slots-within q e h in
+      let d = in_stands s n m k within slots_within q e h in
       let i = d.position.0 in
       let f = full_back s.heap g.heap_sound q d.position d.made d.full in
-      let r = in-timer s n e.place.0 t z in
+      let r = in_timer s n e.place.0 t z in
       let v : (timer_at s e.place.0).held ≡ Held.At (entry_at s.heap i).slot =
       subst (λ (x : Entry). (timer_at s x.place.0).held ≡ Held.At (entry_at s.heap i).slot) d.entry (g.entry_own i d.in_use) in
       let y : t.held ≡ Held.At (entry_at s.heap i).slot = sym (ap (λ (x : Timer). x.held) r.1) ∙ v in
       ((entry_at s.heap i).slot.0, ap slot_of y, sym f.1))
 
   -- a sound set keeps all clauses
-  pub sound-kept : Kept s
-  sound-kept = record {
+  pub sound_kept : Kept s
+  sound_kept = record {
     c11 = true_ref (ref_le s.heap.len cap) within;
-    c12 = true_ref (ref_le s.heap.made cap) slots-within;
-    c13 = true_ref (ref-counted s m k within slots-within) g.heap_sound.counted;
-    c14 = true_ref (ref-positioned s m k within slots-within) g.heap_sound.forth;
-    c15 = true_ref (ref-ordered s m k within slots-within) (λ i l z. g.heap_sound.ordered i z l);
-    c16 = true_ref (ref-chained s m k within slots-within) g.heap_sound.chained;
-    c21 = own-slots;
-    c22 = own-entries;
-    c31 = true_ref (ref-waiters s n) (λ p l e. lists.whole p l (marked_waits s p l e));
-    c32 = true_ref (ref-only s n) (λ p i. (lists.sound p i).1);
+    c12 = true_ref (ref_le s.heap.made cap) slots_within;
+    c13 = true_ref (ref_counted s m k within slots_within) g.heap_sound.counted;
+    c14 = true_ref (ref_positioned s m k within slots_within) g.heap_sound.forth;
+    c15 = true_ref (ref_ordered s m k within slots_within) (λ i l z. g.heap_sound.ordered i z l);
+    c16 = true_ref (ref_chained s m k within slots_within) g.heap_sound.chained;
+    c21 = own_slots_lem;
+    c22 = own_entries_lem;
+    c31 = true_ref (ref_waiters s n) (λ p l e. lists.whole p l (marked_waits s p l e));
+    c32 = true_ref (ref_only s n) (λ p i. (lists.sound p i).1);
     c33 = true_ref (ref_once s n) (distinct_once (listed s) lists.once);
-    c41 = true_ref (ref-live s n) (λ o p l w e. let r = live_word_lem (timer_at s p).life w e in g.live_unmarked p w r.0 l o r.1);
-    c42 = true_ref (ref-cancelled s n) (λ o p l w e. g.cancelled_unmarked p w l o (cancelled_word_lem (timer_at s p).life w e));
-    c43 = true_ref (ref-closed-list s n) g.list_empty;
-    c44 = true_ref (ref-closed-heap s n m k within slots-within) g.heap_empty;
-    c51 = none-held is_free free-out;
-    c52 = none-held is_retired retired-out;
-    c53 = none-listed is_free free-out;
-    c54 = none-listed is_retired retired-out;
-    c61 = true_ref (ref-cancelled-listed s n)
+    c41 = true_ref (ref_live s n) (λ o p l w e. let r = live_word_lem (timer_at s p).life w e in g.live_unmarked p w r.0 l o r.1);
+    c42 = true_ref (ref_cancelled s n) (λ o p l w e. g.cancelled_unmarked p w l o (cancelled_word_lem (timer_at s p).life w e));
+    c43 = true_ref (ref_closed_list s n) g.list_empty;
+    c44 = true_ref (ref_closed_heap s n m k within slots_within) g.heap_empty;
+    c51 = none_held_lem is_free free_out;
+    c52 = none_held_lem is_retired retired_out;
+    c53 = none_listed_lem is_free free_out;
+    c54 = none_listed_lem is_retired retired_out;
+    c61 = true_ref (ref_cancelled_listed s n)
         (λ o p l w e. lists.whole p l (marked_waits s p l (g.cancelled_waits p w l o (cancelled_word_lem (timer_at s p).life w e))));
-    c81 = true_ref (ref-generations s n m k within slots-within) g.generations;
-    c82 = true_ref (ref-places s n m k within slots-within) (g.entry_place, λ p i. (lists.sound p i).0);
+    c81 = true_ref (ref_generations s n m k within slots_within) g.generations;
+    c82 = true_ref (ref_places s n m k within slots_within) (g.entry_place, λ p i. (lists.sound p i).0);
   }

@@ -32,8 +32,8 @@ use Rattle.promises.specs.Corners.{cancelled_at, crowded}
 use Rattle.promises.proofs.ByClause.ClauseLists.{in_element}
 use Rattle.promises.proofs.Drawn.Room.{room_each}
 use Rattle.promises.proofs.Drawn.Verdicts.{alike_broken, also, verdicts}
-use Rattle.promises.proofs.Drawn.Numbered.{numbered-length, numbered-at, numbered-each, room_whole}
-use Rattle.promises.proofs.Drawn.Fitting.{word_fits, drawn-fit}
+use Rattle.promises.proofs.Drawn.Numbered.{numbered_length, numbered_at, numbered_each, room_whole}
+use Rattle.promises.proofs.Drawn.Fitting.{word_fits, drawn_fit}
 
 -- the live timers, and the places with this timer in front of them
 abbrev lives : List Timer
@@ -44,22 +44,22 @@ behind t = in_room no_timer 0 (t ∷ lives)
 
 -- with it there are as many as places, and so nothing stands after them
 lives_long : (t : Timer) → length (t ∷ lives) ≡ cap
-lives_long t = ap suc (numbered-length (λ i. live No no_slot) (cap - 1) 1)
+lives_long t = ap suc (numbered_length (λ i. live No no_slot) (cap - 1) 1)
 
 behind_all : (t : Timer) → behind t ≡ t ∷ lives
 behind_all t = room_whole no_timer (t ∷ lives) (lives_long t)
 
 -- what a live timer passes, all of them pass
 lives_each : (f : ℕ → Timer → Bool) → ((i : ℕ) → f (1 + i) (live No no_slot) ≡ true) → each 1 f lives ≡ true
-lives_each f h = numbered-each (λ i. live No no_slot) f (cap - 1) 1 1 (λ i l. h i)
+lives_each f h = numbered_each (λ i. live No no_slot) f (cap - 1) 1 1 (λ i l. h i)
 
 -- SOUND, where place 0 has a cancelled timer
 
 module _ (u : ℕ) where
   -- the list has place 0 alone
-  listed-one : listed (set_of (crowded u)) ≡ 0 ∷ []
+  listed_one : listed (set_of (crowded u)) ≡ 0 ∷ []
   unfolding spare set_of nodes
-  listed-one = refl
+  listed_one = refl
 
   -- the clauses that go through the places, by their numbers
   c21 : own_slots (set_of (crowded u)) ≡ true
@@ -70,7 +70,7 @@ module _ (u : ℕ) where
   unfolding set_of
   c31 =
       room_each no_timer _ (λ i. refl) 0 (cancelled_at u ∷ lives)
-      ∙ ap₂ ◌&&◌ (ap (λ (l : List ℕ). ltb 0 (times 0 l)) listed-one) (lives_each _ (λ i. refl))
+      ∙ ap₂ ◌&&◌ (ap (λ (l : List ℕ). ltb 0 (times 0 l)) listed_one) (lives_each _ (λ i. refl))
 
   c41 : live_unmarked (set_of (crowded u)) ≡ true
   unfolding set_of
@@ -84,12 +84,12 @@ module _ (u : ℕ) where
   unfolding set_of
   c61 =
       room_each no_timer _ (λ i. refl) 0 (cancelled_at u ∷ lives)
-      ∙ ap₂ ◌&&◌ (ap (λ (l : List ℕ). ltb 0 (times 0 l)) listed-one) (lives_each _ (λ i. refl))
+      ∙ ap₂ ◌&&◌ (ap (λ (l : List ℕ). ltb 0 (times 0 l)) listed_one) (lives_each _ (λ i. refl))
 
   -- none is broken
-  crowded-none : broken (set_of (crowded u)) ≡ []
+  crowded_none : broken (set_of (crowded u)) ≡ []
   unfolding spare set_of heap_of nodes
-  crowded-none =
+  crowded_none =
       let held = also refl (also refl (also refl (also refl (also c61 (also refl (also refl tt)))))) in
       let shut = also c41 (also c42 (also refl (also refl held))) in
       let list = also c21 (also refl (also c31 (also refl (also refl shut)))) in
@@ -97,10 +97,10 @@ module _ (u : ℕ) where
       (also refl (also refl (also refl (also refl (also refl (also refl list))))))
 
   -- so it fits
-  pub crowded-fit : Fit (set_of (crowded u))
-  crowded-fit =
+  pub crowded_fit : Fit (set_of (crowded u))
+  crowded_fit =
       let e = lives_long (cancelled_at u) in
-      drawn-fit (crowded u) (omega (arith, e)) (omega arith) (omega arith) crowded-none
+      drawn_fit (crowded u) (omega (arith, e)) (omega arith) (omega arith) crowded_none
       (lives_each (λ p t. word_fits t) (λ i. refl))
 
 -- FULL, where place 0 is not free
@@ -113,24 +113,24 @@ crowd t f = record { heap = heap_of bare; timers = behind t; first = f; closed =
 behind_taken : (t : Timer) → is_free t.life ≡ false → (i : ℕ) → i < cap → not (is_free (get_or (t ∷ lives) i no_timer).life) ≡ true
 behind_taken t e zero l = ap not e
 behind_taken t e (suc i) l =
-    let a = numbered-at (λ i. live No no_slot) (cap - 1) 1 i (omega arith) in
+    let a = numbered_at (λ i. live No no_slot) (cap - 1) 1 i (omega arith) in
     ap (λ (x : Timer). not (is_free x.life)) (in_element no_timer lives i (live No no_slot) a).1
 
 module _ (t : Timer) (f : First) (e : is_free t.life ≡ false) where
-  none-lowest : lowest_free (crowd t f) ≡ none
+  none_lowest : lowest_free (crowd t f) ≡ none
   unfolding lowest_free taken
-  none-lowest =
+  none_lowest =
       all_none (taken (crowd t f)) cap 0
       (λ i a b. ap (λ (ts : List Timer). not (is_free (get_or ts i no_timer).life)) (behind_all t) ∙ behind_taken t e i (omega arith))
 
   -- an add is refused with 4, and the calls after it find the set as it was
-  pub add-full : (l : List ℕ) (d : ℕ) (cs : List Call) (ws : List (Answer Value))
+  pub add_full : (l : List ℕ) (d : ℕ) (cs : List Call) (ws : List (Answer Value))
       → answered unguarded (lent (crowd t f) l) (C.Add d ∷ cs) (refused 4 ∷ ws) ≡ answered unguarded (lent (crowd t f) l) cs ws
   unfolding unguarded
-  add-full l d cs ws =
+  add_full l d cs ws =
       let s = crowd t f in
       ap
       (λ (o : Option ℕ).
       let r = with_list l (opened s s (added_at s d o)) in
       same_numbers (code r.answer) (code (refused 4)) && answered unguarded r.state cs ws)
-      none-lowest
+      none_lowest

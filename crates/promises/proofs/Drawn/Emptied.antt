@@ -23,7 +23,7 @@ use Rattle.promises.proofs.Drawn.Room.{room_each}
 use Rattle.promises.proofs.Drawn.Each.{each_yes}
 use Rattle.promises.proofs.Drawn.Path.{path, ends_path, path_once}
 use Rattle.promises.proofs.Drawn.Verdicts.{Alike_clauses, alike_broken, also, verdicts}
-use Rattle.promises.proofs.Drawn.Numbered.{numbered-length, numbered-first, numbered-each, room_full}
+use Rattle.promises.proofs.Drawn.Numbered.{numbered_length, numbered_first, numbered_each, room_full}
 
 -- none of these slots is full
 fulls_none : (n k : ℕ) → fulls (numbered empty n k) ≡ 0
@@ -40,56 +40,56 @@ module _ (n : ℕ) (l : cap ≤ n) where
   abbrev line : List SlabSlot
   line = empty n ∷ numbered empty (cap - 1) 0
 
-  line-length : length line ≡ cap
-  line-length = ap suc (numbered-length empty (cap - 1) 0)
+  line_length : length line ≡ cap
+  line_length = ap suc (numbered_length empty (cap - 1) 0)
 
-  slab-all : slab (set_of (emptied n)).heap ≡ line
+  slab_all : slab (set_of (emptied n)).heap ≡ line
   unfolding set_of heap_of
-  slab-all = room_full (empty 0) line line-length n l
+  slab_all = room_full (empty 0) line line_length n l
 
   -- the slot that a slot names
   abbrev next : ℕ → Option ℕ
   next q = there none next_free (slot_in (set_of (emptied n)).heap q)
 
-  next-by : (q : ℕ) → next q ≡ there none next_free (there none (λ x. some x.state) (element line q))
-  next-by q = ap (λ (ss : List SlabSlot). there none next_free (there none (λ x. some x.state) (element ss q))) slab-all
+  next_by : (q : ℕ) → next q ≡ there none next_free (there none (λ x. some x.state) (element line q))
+  next_by q = ap (λ (ss : List SlabSlot). there none next_free (there none (λ x. some x.state) (element ss q))) slab_all
 
-  next-suc : (m : ℕ) → suc m < cap → next (suc m) ≡ some m
-  next-suc m h =
-      next-by (suc m)
-      ∙ ap (λ (o : Option SlabSlot). there none next_free (there none (λ x. some x.state) o)) (numbered-first empty (cap - 1) m (omega arith))
+  next_suc : (m : ℕ) → suc m < cap → next (suc m) ≡ some m
+  next_suc m h =
+      next_by (suc m)
+      ∙ ap (λ (o : Option SlabSlot). there none next_free (there none (λ x. some x.state) o)) (numbered_first empty (cap - 1) m (omega arith))
 
-  next-end : next n ≡ none
-  next-end =
-      next-by n
-      ∙ ap (λ (o : Option SlabSlot). there none next_free (there none (λ x. some x.state) o)) (element_out line n (omega (arith, line-length)))
+  next_end : next n ≡ none
+  next_end =
+      next_by n
+      ∙ ap (λ (o : Option SlabSlot). there none next_free (there none (λ x. some x.state) o)) (element_out line n (omega (arith, line_length)))
 
   -- from a slot on every slot below it is met, and last the number n
-  met-path : (m f : ℕ) → m < cap → m + 2 ≤ f → nodes next f (some m) ≡ path n m
+  met_path : (m f : ℕ) → m < cap → m + 2 ≤ f → nodes next f (some m) ≡ path n m
   unfolding nodes path
-  met-path zero zero a b = absurd (omega arith)
-  met-path zero (suc zero) a b = absurd (omega arith)
-  met-path zero (suc (suc f)) a b =
-      ap (λ (o : Option ℕ). 0 ∷ nodes next (suc f) o) (next-by 0) ∙ ap (λ (o : Option ℕ). 0 ∷ n ∷ nodes next f o) next-end
+  met_path zero zero a b = absurd (omega arith)
+  met_path zero (suc zero) a b = absurd (omega arith)
+  met_path zero (suc (suc f)) a b =
+      ap (λ (o : Option ℕ). 0 ∷ nodes next (suc f) o) (next_by 0) ∙ ap (λ (o : Option ℕ). 0 ∷ n ∷ nodes next f o) next_end
       ∙ ap (λ (t : List ℕ). 0 ∷ n ∷ t) (nodes_none next f)
-  met-path (suc m) zero a b = absurd (omega arith)
-  met-path (suc m) (suc f) a b =
-      ap (λ (o : Option ℕ). suc m ∷ nodes next f o) (next-suc m a) ∙ ap (◌∷◌ (suc m)) (met-path m f (omega arith) (omega arith))
+  met_path (suc m) zero a b = absurd (omega arith)
+  met_path (suc m) (suc f) a b =
+      ap (λ (o : Option ℕ). suc m ∷ nodes next f o) (next_suc m a) ∙ ap (◌∷◌ (suc m)) (met_path m f (omega arith) (omega arith))
 
-  met-is : met_free (set_of (emptied n)).heap ≡ path n (cap - 1)
+  met_is : met_free (set_of (emptied n)).heap ≡ path n (cap - 1)
   unfolding set_of heap_of
-  met-is = met-path (cap - 1) (suc (suc cap)) (omega arith) (omega arith)
+  met_is = met_path (cap - 1) (suc (suc cap)) (omega arith) (omega arith)
 
   -- the clauses that are not plain, by their numbers
   c13 : counted (set_of (emptied n)) ≡ true
   unfolding set_of heap_of
-  c13 = ap (λ (ss : List SlabSlot). eqb 0 (fulls ss)) slab-all ∙ ap (λ (k : ℕ). eqb 0 (0 + k)) (fulls_none (cap - 1) 0)
+  c13 = ap (λ (ss : List SlabSlot). eqb 0 (fulls ss)) slab_all ∙ ap (λ (k : ℕ). eqb 0 (0 + k)) (fulls_none (cap - 1) 0)
 
   c16 : chained (set_of (emptied n)) ≡ true
   unfolding set_of heap_of
   c16 =
-      ap (λ (met : List ℕ). says met (slab (set_of (emptied n)).heap) && ends_in n met) met-is
-      ∙ ap₂ ◌&&◌ (ap (says (path n (cap - 1))) slab-all ∙ ap₂ ◌&&◌ (once 0 (omega arith)) (numbered-each empty _ (cap - 1) 0 1 (λ i h. once (1 + i) (omega arith))))
+      ap (λ (met : List ℕ). says met (slab (set_of (emptied n)).heap) && ends_in n met) met_is
+      ∙ ap₂ ◌&&◌ (ap (says (path n (cap - 1))) slab_all ∙ ap₂ ◌&&◌ (once 0 (omega arith)) (numbered_each empty _ (cap - 1) 0 1 (λ i h. once (1 + i) (omega arith))))
       (ends_path n (cap - 1))
     where
       says : List ℕ → List SlabSlot → Bool
@@ -104,12 +104,12 @@ module _ (n : ℕ) (l : cap ≤ n) where
 
   c22 : own_entries (set_of (emptied n)) ≡ true
   unfolding set_of heap_of
-  c22 = each_yes _ (λ q x. ap (there true _) (no-entry (slot_in (heap_of (empty_heap n)) q))) 0 (slab (heap_of (empty_heap n)))
+  c22 = each_yes _ (λ q x. ap (there true _) (no_entry_lem (slot_in (heap_of (empty_heap n)) q))) 0 (slab (heap_of (empty_heap n)))
     where
-      no-entry : (o : Option SlotState) → there {B = Option Entry} none (λ x. there none (element []) (position_in x)) o ≡ none
-      no-entry none = refl
-      no-entry (some (Full i)) = refl
-      no-entry (some (Empty m)) = refl
+      no_entry_lem : (o : Option SlotState) → there {B = Option Entry} none (λ x. there none (element []) (position_in x)) o ≡ none
+      no_entry_lem none = refl
+      no_entry_lem (some (Full i)) = refl
+      no_entry_lem (some (Empty m)) = refl
 
   c31 : waiters_listed (set_of (emptied n)) ≡ true
   unfolding set_of

@@ -37,89 +37,89 @@ module _ (d : Drawn) where
   after p = there none (λ t. next_in t.waiting) (at p)
 
   -- the places met from the list's head on, and the slots met from the free head on
-  abbrev pub listedFew : List ℕ
-  listedFew = nodes after steps (head_of d.first)
+  abbrev pub listed_few : List ℕ
+  listed_few = nodes after steps (head_of d.first)
 
   abbrev pub follows : ℕ → Option ℕ
   follows q = there none next_free (slot_in store q)
 
-  abbrev pub metFew : List ℕ
-  metFew = nodes follows steps (some d.heap.free)
+  abbrev pub met_few : List ℕ
+  met_few = nodes follows steps (some d.heap.free)
 
   -- every timer that is drawn passes
-  abbrev pub eachDrawn : (ℕ → Timer → Bool) → Bool
-  eachDrawn f = each d.start f d.timers
+  abbrev pub each_drawn : (ℕ → Timer → Bool) → Bool
+  each_drawn f = each d.start f d.timers
 
   -- 16
-  abbrev pub chainedFew : Bool
-  chainedFew =
-      let met = metFew in
+  abbrev pub chained_few : Bool
+  chained_few =
+      let met = met_few in
       each 0 (λ q x. there true (λ n. eqb (times q met) 1) (next_free x.state)) (slab store) && ends_in d.heap.made met
 
   -- 21, 22
-  abbrev pub ownSlotsFew : Bool
-  ownSlotsFew = eachDrawn (λ p t. there true (λ q. there false (λ e. eqb e.place.0 p) (entry_in store q)) (slot_of t.held))
+  abbrev pub own_slots_few : Bool
+  own_slots_few = each_drawn (λ p t. there true (λ q. there false (λ e. eqb e.place.0 p) (entry_in store q)) (slot_of t.held))
 
-  abbrev pub ownEntriesFew : Bool
-  ownEntriesFew =
+  abbrev pub own_entries_few : Bool
+  own_entries_few =
       each 0 (λ q x. there true (λ e. there true (λ t. there false (eqb q) (slot_of t.held)) (at e.place.0)) (entry_in store q)) (slab store)
 
   -- 31, 32
-  abbrev pub waitersFew : Bool
-  waitersFew = let l = listedFew in eachDrawn (λ p t. not (is_waiting t.waiting) || ltb 0 (times p l))
+  abbrev pub waiters_few : Bool
+  waiters_few = let l = listed_few in each_drawn (λ p t. not (is_waiting t.waiting) || ltb 0 (times p l))
 
-  abbrev pub onlyFew : Bool
-  onlyFew = each 0 (λ k p. there false (λ t. is_waiting t.waiting) (at p)) listedFew
+  abbrev pub only_few : Bool
+  only_few = each 0 (λ k p. there false (λ t. is_waiting t.waiting) (at p)) listed_few
 
   -- 41, 42
-  abbrev pub liveFew : Bool
-  liveFew = d.closed || eachDrawn (λ p t. there true (λ w. not (invalid_in w)) (live_word t.life))
+  abbrev pub live_few : Bool
+  live_few = d.closed || each_drawn (λ p t. there true (λ w. not (invalid_in w)) (live_word t.life))
 
-  abbrev pub cancelledFew : Bool
-  cancelledFew = d.closed || eachDrawn (λ p t. there true (λ w. not (invalid_in w)) (cancelled_word t.life))
+  abbrev pub cancelled_few : Bool
+  cancelled_few = d.closed || each_drawn (λ p t. there true (λ w. not (invalid_in w)) (cancelled_word t.life))
 
   -- 51, 52; 53, 54
-  abbrev pub noneHeldFew : (Life → Bool) → Bool
-  noneHeldFew kind = each 0 (λ i e. there true (λ t. not (kind t.life)) (at e.place.0)) (items store)
+  abbrev pub none_held_few : (Life → Bool) → Bool
+  none_held_few kind = each 0 (λ i e. there true (λ t. not (kind t.life)) (at e.place.0)) (items store)
 
-  abbrev pub noneListedFew : (Life → Bool) → Bool
-  noneListedFew kind = each 0 (λ k p. there true (λ t. not (kind t.life)) (at p)) listedFew
+  abbrev pub none_listed_few : (Life → Bool) → Bool
+  none_listed_few kind = each 0 (λ k p. there true (λ t. not (kind t.life)) (at p)) listed_few
 
   -- 61
-  abbrev pub cancelledListedFew : Bool
-  cancelledListedFew =
-      let l = listedFew in
-      d.closed || eachDrawn (λ p t. there true (λ w. ltb 0 (times p l)) (cancelled_word t.life))
+  abbrev pub cancelled_listed_few : Bool
+  cancelled_listed_few =
+      let l = listed_few in
+      d.closed || each_drawn (λ p t. there true (λ w. ltb 0 (times p l)) (cancelled_word t.life))
 
   -- 82
-  abbrev pub placesFew : Bool
-  placesFew = each 0 (λ i e. ltb e.place.0 cap) (items store) && each 0 (λ k p. ltb p cap) listedFew
+  abbrev pub places_few : Bool
+  places_few = each 0 (λ i e. ltb e.place.0 cap) (items store) && each 0 (λ k p. ltb p cap) listed_few
 
   -- all clauses; those that are not above go through the heap alone, as it is
-  abbrev pub clausesFew : List Clause
-  clausesFew =
+  abbrev pub clauses_few : List Clause
+  clauses_few =
       clause 11 entries_fit
       ∷ clause 12 slots_fit
       ∷ clause 13 counted
       ∷ clause 14 positioned
       ∷ clause 15 ordered
-      ∷ clause 16 (λ s. chainedFew)
-      ∷ clause 21 (λ s. ownSlotsFew)
-      ∷ clause 22 (λ s. ownEntriesFew)
-      ∷ clause 31 (λ s. waitersFew)
-      ∷ clause 32 (λ s. onlyFew)
-      ∷ clause 33 (λ s. once listedFew)
-      ∷ clause 41 (λ s. liveFew)
-      ∷ clause 42 (λ s. cancelledFew)
-      ∷ clause 43 (λ s. not d.closed || is_empty listedFew)
+      ∷ clause 16 (λ s. chained_few)
+      ∷ clause 21 (λ s. own_slots_few)
+      ∷ clause 22 (λ s. own_entries_few)
+      ∷ clause 31 (λ s. waiters_few)
+      ∷ clause 32 (λ s. only_few)
+      ∷ clause 33 (λ s. once listed_few)
+      ∷ clause 41 (λ s. live_few)
+      ∷ clause 42 (λ s. cancelled_few)
+      ∷ clause 43 (λ s. not d.closed || is_empty listed_few)
       ∷ clause 44 closed_heap
-      ∷ clause 51 (λ s. noneHeldFew is_free)
-      ∷ clause 52 (λ s. noneHeldFew is_retired)
-      ∷ clause 53 (λ s. noneListedFew is_free)
-      ∷ clause 54 (λ s. noneListedFew is_retired)
-      ∷ clause 61 (λ s. cancelledListedFew)
+      ∷ clause 51 (λ s. none_held_few is_free)
+      ∷ clause 52 (λ s. none_held_few is_retired)
+      ∷ clause 53 (λ s. none_listed_few is_free)
+      ∷ clause 54 (λ s. none_listed_few is_retired)
+      ∷ clause 61 (λ s. cancelled_listed_few)
       ∷ clause 81 generations_fit
-      ∷ clause 82 (λ s. placesFew)
+      ∷ clause 82 (λ s. places_few)
       ∷ []
 
   -- what is drawn has room, the list has ended or loops within the steps that are followed, and so has the free chain: where it loops
@@ -130,4 +130,4 @@ module _ (d : Drawn) where
       && (leb (length d.heap.entries) cap
       && (leb (length d.heap.slots) cap
       && (settled after steps (head_of d.first)
-      && (let met = metFew in ltb (length met) steps || (closed follows met && not (ltb 0 (times d.heap.made met)))))))
+      && (let met = met_few in ltb (length met) steps || (closed follows met && not (ltb 0 (times d.heap.made met)))))))

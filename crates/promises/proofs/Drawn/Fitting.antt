@@ -19,9 +19,9 @@ use Rattle.laws.specs.Words.{Small, Fit}
 use Rattle.promises.specs.Clauses.{each, there, live_word, broken_of, broken}
 use Rattle.promises.specs.States.{Drawn, empty, heap_of, set_of}
 use Rattle.promises.proofs.ByClause.ClauseKept.{broken_kept}
-use Rattle.promises.proofs.ByClause.ClausesEnough.{kept-sound}
+use Rattle.promises.proofs.ByClause.ClausesEnough.{kept_sound}
 use Rattle.promises.proofs.Drawn.Room.{drawn, room_length, drawn_length, room_each}
-use Rattle.promises.proofs.Drawn.Few.{clausesFew, fits}
+use Rattle.promises.proofs.Drawn.Few.{clauses_few, fits}
 use Rattle.promises.proofs.Drawn.Same.{few_broken}
 
 -- the word of a timer, where it is live, has 32 bits
@@ -42,20 +42,20 @@ each_at d f e k (x ∷ xs) h (suc p) = each_at d f e (suc k) xs (and_right (f x)
 
 module _ (d : Drawn) where
   -- the words that are drawn have 32 bits
-  abbrev pub wordsFit : Bool
-  wordsFit = each d.start (λ p t. word_fits t) d.timers
+  abbrev pub words_fit : Bool
+  words_fit = each d.start (λ p t. word_fits t) d.timers
 
   -- a set fits where it breaks no clause, and its words have
-  pub drawn-fit : d.start + length d.timers ≤ cap → length d.heap.entries ≤ cap → length d.heap.slots ≤ cap
-      → broken (set_of d) ≡ [] → wordsFit ≡ true → Fit (set_of d)
+  pub drawn_fit : d.start + length d.timers ≤ cap → length d.heap.entries ≤ cap → length d.heap.slots ≤ cap
+      → broken (set_of d) ≡ [] → words_fit ≡ true → Fit (set_of d)
   unfolding set_of heap_of
-  drawn-fit t e q b w =
+  drawn_fit t e q b w =
       let n = drawn_length no_timer d.start d.timers t in
       let m = room_length no_entry 0 d.heap.entries (omega (arith, e)) in
       let k = room_length (empty 0) 0 d.heap.slots (omega (arith, q)) in
       let h = room_each no_timer (λ p t. word_fits t) (λ i. refl) d.start d.timers ∙ w in
       record {
-        sound = kept-sound (set_of d) n (omega (arith, m)) (omega (arith, k)) (broken_kept (set_of d) b);
+        sound = kept_sound (set_of d) n (omega (arith, m)) (omega (arith, k)) (broken_kept (set_of d) b);
         words = record {
           long = n;
           small = λ p l. word_small (timer_at (set_of d) p) (each_at no_timer word_fits refl 0 (drawn no_timer d.start d.timers) h p);
@@ -63,10 +63,10 @@ module _ (d : Drawn) where
       }
 
   -- by what is drawn
-  pub few-fit : fits d ≡ true → broken_of (set_of d) (clausesFew d) ≡ [] → wordsFit ≡ true → Fit (set_of d)
-  few-fit f b w =
+  pub few_fit : fits d ≡ true → broken_of (set_of d) (clauses_few d) ≡ [] → words_fit ≡ true → Fit (set_of d)
+  few_fit f b w =
       let n = leb (d.start + length d.timers) cap in
       let m = leb (length d.heap.entries) cap in
       let k = leb (length d.heap.slots) cap in
-      drawn-fit (ref_true (ref_le _ cap) (and_left n _ f)) (ref_true (ref_le _ cap) (and_left m _ (and_right n _ f)))
+      drawn_fit (ref_true (ref_le _ cap) (and_left n _ f)) (ref_true (ref_le _ cap) (and_left m _ (and_right n _ f)))
       (ref_true (ref_le _ cap) (and_left k _ (and_right m _ (and_right n _ f)))) (few_broken d f ∙ b) w

@@ -43,17 +43,17 @@ pub record Alike (l m : List ℕ) : Type 0 where
 
 -- then the tests of them say the same
 module _ (l m : List ℕ) (a : Alike l m) where
-  pub alike-has : (x : ℕ) → ltb 0 (times x l) ≡ ltb 0 (times x m)
-  alike-has x = ref_same _ _ (ref_mem x l) (ref_mem x m) (a.forth x) (a.back x)
+  pub alike_has : (x : ℕ) → ltb 0 (times x l) ≡ ltb 0 (times x m)
+  alike_has x = ref_same _ _ (ref_mem x l) (ref_mem x m) (a.forth x) (a.back x)
 
-  pub alike-each : (f : ℕ → Bool) → each 0 (λ i x. f x) l ≡ each 0 (λ i x. f x) m
-  alike-each f = ref_same _ _ (ref_passes f l) (ref_passes f m) (λ h x y. h x (a.back x y)) (λ h x y. h x (a.forth x y))
+  pub alike_each : (f : ℕ → Bool) → each 0 (λ i x. f x) l ≡ each 0 (λ i x. f x) m
+  alike_each f = ref_same _ _ (ref_passes f l) (ref_passes f m) (λ h x y. h x (a.back x y)) (λ h x y. h x (a.forth x y))
 
-  pub alike-once : once l ≡ once m
-  alike-once = ref_same _ _ (ref_once l) (ref_once m) a.apart a.apart_back
+  pub alike_once : once l ≡ once m
+  alike_once = ref_same _ _ (ref_once l) (ref_once m) a.apart a.apart_back
 
-  pub alike-empty : is_empty l ≡ is_empty m
-  alike-empty = ref_same _ _ (ref_empty l) (ref_empty m) (λ e. none_in m (λ x y. subst (Mem x) e (a.back x y))) (λ e. none_in l (λ x y. subst (Mem x) e (a.forth x y)))
+  pub alike_empty : is_empty l ≡ is_empty m
+  alike_empty = ref_same _ _ (ref_empty l) (ref_empty m) (λ e. none_in m (λ x y. subst (Mem x) e (a.back x y))) (λ e. none_in l (λ x y. subst (Mem x) e (a.forth x y)))
     where
       none_in : (k : List ℕ) → ((x : ℕ) → Mem x k → ⊥) → k ≡ []
       none_in [] h = refl
@@ -61,40 +61,40 @@ module _ (l m : List ℕ) (a : Alike l m) where
 
 module _ (next : ℕ → Option ℕ) where
   -- fewer steps meet no more, and repeat none where more do not
-  met-more : (m n : ℕ) → m ≤ n → (h : Option ℕ) (x : ℕ) → Mem x (nodes next m h) → Mem x (nodes next n h)
+  met_more : (m n : ℕ) → m ≤ n → (h : Option ℕ) (x : ℕ) → Mem x (nodes next m h) → Mem x (nodes next n h)
   unfolding nodes
-  met-more zero n l h x y = absurd y
-  met-more (suc m) zero l h x y = absurd (omega arith)
-  met-more (suc m) (suc n) l none x y = y
-  met-more (suc m) (suc n) l (some z) x (inl e) = inl e
-  met-more (suc m) (suc n) l (some z) x (inr y) = inr (met-more m n (omega arith) (next z) x y)
+  met_more zero n l h x y = absurd y
+  met_more (suc m) zero l h x y = absurd (omega arith)
+  met_more (suc m) (suc n) l none x y = y
+  met_more (suc m) (suc n) l (some z) x (inl e) = inl e
+  met_more (suc m) (suc n) l (some z) x (inr y) = inr (met_more m n (omega arith) (next z) x y)
 
-  apart-fewer : (m n : ℕ) → m ≤ n → (h : Option ℕ) → Distinct (nodes next n h) → Distinct (nodes next m h)
+  apart_fewer : (m n : ℕ) → m ≤ n → (h : Option ℕ) → Distinct (nodes next n h) → Distinct (nodes next m h)
   unfolding nodes
-  apart-fewer zero n l h d = tt
-  apart-fewer (suc m) zero l h d = absurd (omega arith)
-  apart-fewer (suc m) (suc n) l none d = tt
-  apart-fewer (suc m) (suc n) l (some z) d = (λ y. d.0 (met-more m n (omega arith) (next z) z y), apart-fewer m n (omega arith) (next z) d.1)
+  apart_fewer zero n l h d = tt
+  apart_fewer (suc m) zero l h d = absurd (omega arith)
+  apart_fewer (suc m) (suc n) l none d = tt
+  apart_fewer (suc m) (suc n) l (some z) d = (λ y. d.0 (met_more m n (omega arith) (next z) z y), apart_fewer m n (omega arith) (next z) d.1)
 
   -- where the links have ended, more steps meet nothing more
-  pub met-ended : (m n : ℕ) → m ≤ n → (h : Option ℕ) → length (nodes next m h) < m → nodes next n h ≡ nodes next m h
+  pub met_ended : (m n : ℕ) → m ≤ n → (h : Option ℕ) → length (nodes next m h) < m → nodes next n h ≡ nodes next m h
   unfolding nodes
-  met-ended zero n l h e = absurd (omega arith)
-  met-ended (suc m) zero l h e = absurd (omega arith)
-  met-ended (suc m) (suc n) l none e = refl
-  met-ended (suc m) (suc n) l (some z) e = ap (◌∷◌ z) (met-ended m n (omega arith) (next z) (omega arith))
+  met_ended zero n l h e = absurd (omega arith)
+  met_ended (suc m) zero l h e = absurd (omega arith)
+  met_ended (suc m) (suc n) l none e = refl
+  met_ended (suc m) (suc n) l (some z) e = ap (◌∷◌ z) (met_ended m n (omega arith) (next z) (omega arith))
 
   -- every link from a number of the list leads to one of it
   abbrev pub closed : List ℕ → Bool
   closed l = each 0 (λ k x. there true (λ y. ltb 0 (times y l)) (next x)) l
 
   -- then nothing else is met from a number of it on
-  met-inside : (l : List ℕ) → closed l ≡ true → (n : ℕ) (h : Option ℕ) → ((y : ℕ) → h ≡ some y → Mem y l) → (x : ℕ) → Mem x (nodes next n h) → Mem x l
+  met_inside : (l : List ℕ) → closed l ≡ true → (n : ℕ) (h : Option ℕ) → ((y : ℕ) → h ≡ some y → Mem y l) → (x : ℕ) → Mem x (nodes next n h) → Mem x l
   unfolding nodes
-  met-inside l c zero h i x m = absurd m
-  met-inside l c (suc n) none i x m = absurd m
-  met-inside l c (suc n) (some z) i x (inl e) = subst (λ (k : ℕ). Mem k l) (sym e) (i z refl)
-  met-inside l c (suc n) (some z) i x (inr m) = met-inside l c n (next z) (λ y e. leads z (i z refl) y e) x m
+  met_inside l c zero h i x m = absurd m
+  met_inside l c (suc n) none i x m = absurd m
+  met_inside l c (suc n) (some z) i x (inl e) = subst (λ (k : ℕ). Mem k l) (sym e) (i z refl)
+  met_inside l c (suc n) (some z) i x (inr m) = met_inside l c n (next z) (λ y e. leads z (i z refl) y e) x m
     where
       leads : (z : ℕ) → Mem z l → (y : ℕ) → next z ≡ some y → Mem y l
       leads z a y e =
@@ -114,13 +114,13 @@ module _ (next : ℕ → Option ℕ) where
 
     -- so what is met within n steps is met within m where those lead nowhere else, and a test of the one is a test of the other
     pub met_within : closed (nodes next m h) ≡ true → (x : ℕ) → Mem x (nodes next n h) → Mem x (nodes next m h)
-    met_within c x y = met-inside (nodes next m h) c n h (head_met m b) x y
+    met_within c x y = met_inside (nodes next m h) c n h (head_met m b) x y
 
     pub settled_alike : settled m h ≡ true → Alike (nodes next n h) (nodes next m h)
     settled_alike s = record {
       forth = met_within (and_left (closed k) _ s);
-      back = met-more m n l h;
-      apart = apart-fewer m n l h;
+      back = met_more m n l h;
+      apart = apart_fewer m n l h;
       apart_back = λ d. go (ltb (length k) m) refl (and_right (closed k) _ s) d;
     }
       where
@@ -128,7 +128,7 @@ module _ (next : ℕ → Option ℕ) where
         k = nodes next m h
 
         go : (b : Bool) → ltb (length k) m ≡ b → (b || not (once k)) ≡ true → Distinct k → Distinct (nodes next n h)
-        go true e t d = subst Distinct (sym (met-ended m n l h (ref_true (ref_lt (length k) m) e))) d
+        go true e t d = subst Distinct (sym (met_ended m n l h (ref_true (ref_lt (length k) m) e))) d
         go false e t d = true_false t (ap not (true_ref (ref_once k) d))
 
 -- a number in which a list ends is one of it

@@ -14,47 +14,47 @@ use Rattle.promises.specs.States.{spare, in_room, numbered}
 
 module _ {A : Type 0} (f : ℕ → A) where
   -- there are n
-  pub numbered-length : (n k : ℕ) → length (numbered f n k) ≡ n
+  pub numbered_length : (n k : ℕ) → length (numbered f n k) ≡ n
   unfolding numbered
-  numbered-length zero k = refl
-  numbered-length (suc n) k = ap suc (numbered-length n (suc k))
+  numbered_length zero k = refl
+  numbered_length (suc n) k = ap suc (numbered_length n (suc k))
 
   -- the element with the number p is made of its own number
-  pub numbered-at : (n k p : ℕ) → p < n → element (numbered f n k) p ≡ some (f (k + p))
+  pub numbered_at : (n k p : ℕ) → p < n → element (numbered f n k) p ≡ some (f (k + p))
   unfolding numbered
-  numbered-at zero k p l = absurd (omega arith)
-  numbered-at (suc n) k zero l = let e : k ≡ k + 0 = omega arith in ap (λ (i : ℕ). some (f i)) e
-  numbered-at (suc n) k (suc p) l =
+  numbered_at zero k p l = absurd (omega arith)
+  numbered_at (suc n) k zero l = let e : k ≡ k + 0 = omega arith in ap (λ (i : ℕ). some (f i)) e
+  numbered_at (suc n) k (suc p) l =
       let e : suc k + p ≡ k + suc p = omega arith in
-      numbered-at n (suc k) p (omega arith) ∙ ap (λ (i : ℕ). some (f i)) e
+      numbered_at n (suc k) p (omega arith) ∙ ap (λ (i : ℕ). some (f i)) e
 
-  pub numbered-first : (n p : ℕ) → p < n → element (numbered f n 0) p ≡ some (f p)
-  numbered-first n p l = let e : 0 + p ≡ p = omega arith in numbered-at n 0 p l ∙ ap (λ (i : ℕ). some (f i)) e
+  pub numbered_first : (n p : ℕ) → p < n → element (numbered f n 0) p ≡ some (f p)
+  numbered_first n p l = let e : 0 + p ≡ p = omega arith in numbered_at n 0 p l ∙ ap (λ (i : ℕ). some (f i)) e
 
   -- and past the n there is none
-  pub numbered-past : (n k p : ℕ) → n ≤ p → element (numbered f n k) p ≡ none
+  pub numbered_past : (n k p : ℕ) → n ≤ p → element (numbered f n k) p ≡ none
   unfolding numbered
-  numbered-past zero k p l = refl
-  numbered-past (suc n) k zero l = absurd (omega arith)
-  numbered-past (suc n) k (suc p) l = numbered-past n (suc k) p (omega arith)
+  numbered_past zero k p l = refl
+  numbered_past (suc n) k zero l = absurd (omega arith)
+  numbered_past (suc n) k (suc p) l = numbered_past n (suc k) p (omega arith)
 
   -- the tests of the elements go by another number, which is j for the first
-  pub numbered-each : (t : ℕ → A → Bool) (n k j : ℕ) → ((i : ℕ) → i < n → t (j + i) (f (k + i)) ≡ true) → each j t (numbered f n k) ≡ true
+  pub numbered_each : (t : ℕ → A → Bool) (n k j : ℕ) → ((i : ℕ) → i < n → t (j + i) (f (k + i)) ≡ true) → each j t (numbered f n k) ≡ true
   unfolding numbered
-  numbered-each t zero k j h = refl
-  numbered-each t (suc n) k j h =
+  numbered_each t zero k j h = refl
+  numbered_each t (suc n) k j h =
       let a : j + 0 ≡ j = omega arith in
       let b : k + 0 ≡ k = omega arith in
       ap₂ ◌&&◌ (sym (ap₂ t a (ap f b)) ∙ h 0 (omega arith))
-      (numbered-each t n (suc k) (suc j)
+      (numbered_each t n (suc k) (suc j)
       (λ i l.
       let c : suc j + i ≡ j + suc i = omega arith in
       let e : suc k + i ≡ k + suc i = omega arith in
       ap₂ t c (ap f e) ∙ h (suc i) (omega arith)))
 
   -- from 0 on, where both numbers are one
-  pub numbered-all : (t : ℕ → A → Bool) (n : ℕ) → ((i : ℕ) → i < n → t i (f i) ≡ true) → each 0 t (numbered f n 0) ≡ true
-  numbered-all t n h = numbered-each t n 0 0 (λ i l. let e : 0 + i ≡ i = omega arith in ap₂ t e (ap f e) ∙ h i l)
+  pub numbered_all : (t : ℕ → A → Bool) (n : ℕ) → ((i : ℕ) → i < n → t i (f i) ≡ true) → each 0 t (numbered f n 0) ≡ true
+  numbered_all t n h = numbered_each t n 0 0 (λ i l. let e : 0 + i ≡ i = omega arith in ap₂ t e (ap f e) ∙ h i l)
 
 -- nothing stands after what is drawn of an array that is full, and its front is all of it
 pub room_whole : {A : Type 0} (d : A) (xs : List A) → length xs ≡ cap → in_room d 0 xs ≡ xs

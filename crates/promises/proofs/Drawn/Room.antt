@@ -71,8 +71,8 @@ module _ {A : Type 0} (d : A) where
       cond-ref (λ (x : A). get_or (replicate k d ++ (xs ++ replicate n d)) p d ≡ x) (ref_lt p k) (λ l. front k (xs ++ replicate n d) p l)
       (λ l. behind k (xs ++ replicate n d) p (omega arith) ∙ past xs n (p - k))
 
-  pub room-element : (k : ℕ) (xs : List A) → k + length xs ≤ cap → (p : ℕ) → element (drawn d k xs) p ≡ drawn_at d k xs p
-  room-element k xs h p =
+  pub room_element : (k : ℕ) (xs : List A) → k + length xs ≤ cap → (p : ℕ) → element (drawn d k xs) p ≡ drawn_at d k xs p
+  room_element k xs h p =
       let e = drawn_length d k xs h in
       cond-ref (λ (o : Option A). element (drawn d k xs) p ≡ o) (ref_lt p cap)
       (λ l. element_in d (drawn d k xs) p (omega (arith, e)) ∙ ap some (room_at k xs p))

@@ -14,12 +14,12 @@ use Rattle.heap.specs.Faults.{full_at, empty_at, next_at, count_ok, position_ok,
 use Rattle.promises.specs.Bench.{same_numbers}
 use Rattle.promises.specs.Clauses.{is_empty, broken_of}
 use Rattle.promises.specs.States.{Drawn, heap_of, set_of, numbered, of_set, Row, few}
-use Rattle.promises.proofs.Drawn.Few.{clausesFew, fits}
+use Rattle.promises.proofs.Drawn.Few.{clauses_few, fits}
 
 -- the heap's test says what it must, and the set breaks just these clauses
 abbrev pub breaks_few : Drawn → List ℕ → Bool
 breaks_few d cs =
-    fits d && (eqb (bit (consistent_of (heap_of d.heap))) (bit (of_set cs)) && same_numbers (broken_of (set_of d) (clausesFew d)) cs)
+    fits d && (eqb (bit (consistent_of (heap_of d.heap))) (bit (of_set cs)) && same_numbers (broken_of (set_of d) (clauses_few d)) cs)
 
 -- so do both sets of every row, the first none and the second some
 abbrev pub right_few : List Row → Bool

@@ -27,7 +27,7 @@ use Rattle.promises.specs.Clauses.{is_empty, broken_of, broken}
 use Rattle.promises.specs.States.{Drawn, empty, heap_of, set_of, of_set, tested, Row, right, wrong}
 use Rattle.promises.proofs.Clauses.{clauses_sound}
 use Rattle.promises.proofs.Drawn.Room.{room_length, drawn_length}
-use Rattle.promises.proofs.Drawn.Few.{clausesFew, fits}
+use Rattle.promises.proofs.Drawn.Few.{clauses_few, fits}
 use Rattle.promises.proofs.Drawn.Same.{few_broken}
 use Rattle.promises.proofs.Drawn.Small.{breaks_few, right_few}
 
@@ -53,32 +53,32 @@ first_clear (some f) b e = e
 
 module _ (d : Drawn) (t : d.start + length d.timers ≤ cap) (e : length d.heap.entries ≤ cap) (q : length d.heap.slots ≤ cap) where
   -- the test says yes of a set that is drawn exactly where it breaks no clause
-  pub drawn-sound : (sound_of (set_of d) ≡ true → broken (set_of d) ≡ []) × (broken (set_of d) ≡ [] → sound_of (set_of d) ≡ true)
+  pub drawn_sound : (sound_of (set_of d) ≡ true → broken (set_of d) ≡ []) × (broken (set_of d) ≡ [] → sound_of (set_of d) ≡ true)
   unfolding set_of heap_of
-  drawn-sound =
+  drawn_sound =
       let a = room_length no_entry 0 d.heap.entries (omega (arith, e)) in
       let b = room_length (empty 0) 0 d.heap.slots (omega (arith, q)) in
       clauses_sound (set_of d) (drawn_length no_timer d.start d.timers t) (omega (arith, a)) (omega (arith, b))
 
   -- so what it says is known from the clauses that are broken
-  sound-is : (cs : List ℕ) → broken (set_of d) ≡ cs → sound_of (set_of d) ≡ is_empty cs
-  sound-is [] b = drawn-sound.1 b
-  sound-is (c ∷ cs) b = is_false _ (λ s. true_false (ap is_empty (drawn-sound.0 s)) (ap is_empty b))
+  sound_is : (cs : List ℕ) → broken (set_of d) ≡ cs → sound_of (set_of d) ≡ is_empty cs
+  sound_is [] b = drawn_sound.1 b
+  sound_is (c ∷ cs) b = is_false _ (λ s. true_false (ap is_empty (drawn_sound.0 s)) (ap is_empty b))
 
   -- so a set is tested as it must be where it breaks what it must and the heap's test says what it must
-  pub tested-by : (cs : List ℕ) → eqb (bit (consistent_of (heap_of d.heap))) (bit (of_set cs)) ≡ true → broken (set_of d) ≡ cs
+  pub tested_by : (cs : List ℕ) → eqb (bit (consistent_of (heap_of d.heap))) (bit (of_set cs)) ≡ true → broken (set_of d) ≡ cs
       → tested (set_of d) (is_empty cs) cs ≡ true
   unfolding set_of
-  tested-by cs h b =
-      both (eq-eqb _ _ (ap bit (sound-is cs b))) (both h (ap (λ (l : List ℕ). same_numbers l cs) b ∙ same_numbers_lem cs))
+  tested_by cs h b =
+      both (eq-eqb _ _ (ap bit (sound_is cs b))) (both h (ap (λ (l : List ℕ). same_numbers l cs) b ∙ same_numbers_lem cs))
 
   -- a set that breaks no clause is sound, and so is its heap
-  pub none-tested : broken (set_of d) ≡ [] → tested (set_of d) true [] ≡ true
+  pub none_tested : broken (set_of d) ≡ [] → tested (set_of d) true [] ≡ true
   unfolding set_of sound_of State.fault_of consistent_of
-  none-tested b =
+  none_tested b =
       let s = set_of d in
-      let c = first_clear (Heap.fault_of s.heap) (or_else (fault_by Where.List (State.list_scan s)) (fault_by Where.Place (State.place_scan s))) (sound-is [] b) in
-      tested-by [] (eq-eqb _ _ (ap bit c)) b
+      let c = first_clear (Heap.fault_of s.heap) (or_else (fault_by Where.List (State.list_scan s)) (fault_by Where.Place (State.place_scan s))) (sound_is [] b) in
+      tested_by [] (eq-eqb _ _ (ap bit c)) b
 
 -- by what is drawn
 few_tested : (d : Drawn) (cs : List ℕ) → breaks_few d cs ≡ true → tested (set_of d) (is_empty cs) cs ≡ true
@@ -89,9 +89,9 @@ few_tested d cs f =
     let m = leb (length d.heap.entries) cap in
     let k = leb (length d.heap.slots) cap in
     let w = eqb (bit (consistent_of (heap_of d.heap))) (bit (of_set cs)) in
-    tested-by d (ref_true (ref_le _ cap) (and_left n _ g)) (ref_true (ref_le _ cap) (and_left m _ (and_right n _ g)))
+    tested_by d (ref_true (ref_le _ cap) (and_left n _ g)) (ref_true (ref_le _ cap) (and_left m _ (and_right n _ g)))
     (ref_true (ref_le _ cap) (and_left k _ (and_right m _ (and_right n _ g)))) cs (and_left w _ h)
-    (few_broken d g ∙ numbers_same (broken_of (set_of d) (clausesFew d)) cs (and_right w (same_numbers (broken_of (set_of d) (clausesFew d)) cs) h))
+    (few_broken d g ∙ numbers_same (broken_of (set_of d) (clauses_few d)) cs (and_right w (same_numbers (broken_of (set_of d) (clauses_few d)) cs) h))
 
 -- a row that is right by what is drawn is right
 row_few : (r : Row) → (breaks_few r.sound [] && (not (is_empty r.breaks) && breaks_few r.unsound r.breaks)) ≡ true → right r ≡ true

@@ -22,23 +22,23 @@ use Rattle.timers.specs.declared.Call.TheVariants as C
 use Rattle.timers.specs.Values.{Value, nothing, handle, counts, wake, polled, time, reports_in}
 use Rattle.timers.specs.Calls.{Lent, add_of, reset_of, cancel_of, turn_of, next_wake_of, step}
 use Rattle.image.specs.Image.{image_of, cleared}
-use Rattle.image.proofs.UnusedRoom.{image-same, sound_cleared}
+use Rattle.image.proofs.UnusedRoom.{image_same, sound_cleared}
 use Rattle.laws.specs.InUse.{SameOutcome, SameLent}
 use Rattle.laws.proofs.AnyCall.Keeping.{refused_keeps}
 use Rattle.laws.proofs.UnusedRoom.InUse.{step_in_use}
 use Rattle.laws.proofs.Reporting.AnyList.{SameTurn, turn_any_list}
-use Rattle.laws.proofs.Widths.Calls.{widths-words}
-use Rattle.laws.proofs.Widths.TurnList.{Lists, turn-list}
+use Rattle.laws.proofs.Widths.Calls.{widths_words}
+use Rattle.laws.proofs.Widths.TurnList.{Lists, turn_list}
 use Rattle.host.specs.Numbers.{or_nobody, handle_from, list_in, reported_in, word_bytes}
 use Rattle.host.specs.Calls.{image_after, pictured, Board, reporting, add_on, reset_on, cancel_on, turn_on, next_wake_on}
 use Rattle.host.specs.Seen.{count_or}
 use Rattle.promises.specs.Images.{bytes_for, words_in, list_after}
 use Rattle.promises.proofs.Images.Reading.{on_image_lem}
-use Rattle.promises.proofs.Images.ReportBytes.{bytes_long, words_back, words-over, words_own, room_same}
+use Rattle.promises.proofs.Images.ReportBytes.{bytes_long, words_back, words_over, words_own, room_same}
 
 -- the set after a call is written where the call is accepted; where it is refused the image stays, and so does the set
 pictured_same : (s t u : Set) (a : Answer Value) → Twins t u → (is_accepted a ≡ false → u ≡ s) → image_after (image_of s) a t ≡ image_of u
-pictured_same s t u (accepted v) r k = image-same r
+pictured_same s t u (accepted v) r k = image_same r
 pictured_same s t u (refused n) r k = ap image_of (sym (k refl))
 pictured_same s t u (unsound f) r k = ap image_of (sym (k refl))
 
@@ -86,9 +86,9 @@ module _ (s : Set) (ok : Sound s) (w : Widths s) where
         answers = b.answers;
       }
 
-  pub add-pictures : (d : ℕ) (l : List ℕ) → Pictures (add_on (image_of s) d) (step s (C.Add d) l).state.set (step s (C.Add d) l).answer
+  pub add_pictures : (d : ℕ) (l : List ℕ) → Pictures (add_on (image_of s) d) (step s (C.Add d) l).state.set (step s (C.Add d) l).answer
   unfolding add_on step
-  add-pictures d l =
+  add_pictures d l =
       subst (λ (x : Outcome (List ℕ) Value). Pictures x (add_of s d).state (add_of s d).answer)
       (sym (on_image_lem s ok w (image_of s) (λ x. pictured (image_of s) (add_of x d)))) (pictures (C.Add d) l)
 
@@ -116,9 +116,9 @@ module _ (s : Set) (ok : Sound s) (w : Widths s) where
         (pictures (C.Cancel h) l)
 
   -- a next wake, which writes nothing
-  pub wake-answers : (l : List ℕ) → next_wake_on (image_of s) ≡ (step s C.NextWake l).answer
+  pub wake_answers : (l : List ℕ) → next_wake_on (image_of s) ≡ (step s C.NextWake l).answer
   unfolding next_wake_on step
-  wake-answers l =
+  wake_answers l =
       ap (λ (x : Outcome (List ℕ) Value). x.answer) (on_image_lem s ok w (image_of s) (λ x. kept (image_of s) (next_wake_of x).answer))
       ∙ (beside C.NextWake l).answers
 
@@ -143,7 +143,7 @@ module _ (s : Set) (ok : Sound s) (w : Widths s) where
     turns_beside = beside (C.Turn N) zeros
 
     turns_any : SameTurn (turn_of s N zeros) there
-    turns_any = turn_any_list s ok (widths-words s ok w) N zeros l (room_same l)
+    turns_any = turn_any_list s ok (widths_words s ok w) N zeros l (room_same l)
 
     same_answer : here.answer ≡ there.answer
     same_answer = turns_beside.answers ∙ turns_any.answers
@@ -169,7 +169,7 @@ module _ (s : Set) (ok : Sound s) (w : Widths s) where
     m = there.state.list
 
     left : Lists n l m
-    left = turn-list s ok w N l
+    left = turn_list s ok w N l
 
     reported_long : length (take n m) ≡ n
     reported_long = length-take-le n m (omega (arith, left.within, left.long))
@@ -202,7 +202,7 @@ module _ (s : Set) (ok : Sound s) (w : Widths s) where
     unfolding word_bytes
     bytes_all small =
         (λ i. words_in (sym left.long i) (sets out 0 (bytes_for (same_reports i))))
-        ∙ ap (words_in (length m)) (words-over n (take n m) reported_long l left.within ∙ ap bytes_for whole)
+        ∙ ap (words_in (length m)) (words_over n (take n m) reported_long l left.within ∙ ap bytes_for whole)
         ∙ words_own m (all_small small)
 
     pub turn_pictures : let q = step s (C.Turn N) l in Turned (turn_on (image_of s) N out) l q.state.set q.state.list q.answer

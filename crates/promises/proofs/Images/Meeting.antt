@@ -16,22 +16,22 @@ use Rattle.timers.specs.Calls.{Value, Lent, live_at, step}
 use Rattle.laws.specs.Words.{Fit}
 use Rattle.laws.specs.Unguarded.{unguarded}
 use Rattle.laws.proofs.Soundness.Unguarded.{step_same}
-use Rattle.laws.proofs.Widths.Calls.{widths-words}
+use Rattle.laws.proofs.Widths.Calls.{widths_words}
 use Rattle.promises.specs.Turns.{Meets}
 use Rattle.promises.specs.Engine.{ours}
 use Rattle.promises.specs.Beside.{plain}
 use Rattle.promises.specs.Images.{hosted, exported, image_after, kept_image, given_twice, PutBack}
 use Rattle.promises.proofs.Engine.{meets}
-use Rattle.promises.proofs.Beside.{beside-meets}
+use Rattle.promises.proofs.Beside.{beside_meets}
 use Rattle.promises.proofs.Images.Tied.{Tied, hosted_beside}
 
 -- what the set behind an image is
 tied_fit : (b : List ℕ) (s : Set) → Tied b s → Fit s
-tied_fit b s t = record { sound = t.sound; words = widths-words s t.sound t.widths }
+tied_fit b s t = record { sound = t.sound; words = widths_words s t.sound t.widths }
 
 -- of the five exported calls, with numbers of 64 bits
 pub hosted_meets : Meets hosted exported
-hosted_meets = beside-meets hosted ours exported Tied hosted_beside meets
+hosted_meets = beside_meets hosted ours exported Tied hosted_beside meets
 
 -- THE TRACE of an older image that is put back: on the sets it is worked out without the test of soundness, which looks at every place
 

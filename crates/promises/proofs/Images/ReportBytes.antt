@@ -12,14 +12,14 @@ use Rattle.theory.proofs.Tests.{by-ref, ref_le, is_false}
 use Rattle.digits.specs.Digits.{digits, value_at, Stands}
 use Rattle.digits.specs.Rows.{rows}
 use Rattle.digits.proofs.Digits.{length_digits, stands_left, stands_all, value_digits}
-use Rattle.digits.proofs.Rows.{rows_ext, rows_self, blocks-append, blocks-long, block-stands}
+use Rattle.digits.proofs.Rows.{rows_ext, rows_self, blocks_append, blocks_long, block_stands}
 use Rattle.heap.specs.Capacity.{cap}
 use Rattle.host.specs.Numbers.{room_in, list_in}
 use Rattle.promises.specs.Images.{bytes_for, start_of, words_in}
 
 -- as many bytes as eight times the words
 pub bytes_long : (l : List ℕ) → length (bytes_for l) ≡ length l * 8
-bytes_long l = blocks-long (digits 8) 8 (length_digits 8) l
+bytes_long l = blocks_long (digits 8) 8 (length_digits 8) l
 
 -- the bytes that are written stand where they are written
 written_stands : (t out : List ℕ) → length t ≤ length out → Stands (sets out 0 t) 0 t
@@ -37,7 +37,7 @@ words_there n ws o long there small =
     (λ j b.
     let z : start_of j ≡ 0 + j * 8 = omega arith in
     let c : f j < 256 ^ 8 = omega (arith, small j b) in
-    ap (value_at 8 o) z ∙ value_digits 8 (f j) c (block-stands (digits 8) 8 (length_digits 8) f n s j b))
+    ap (value_at 8 o) z ∙ value_digits 8 (f j) c (block_stands (digits 8) 8 (length_digits 8) f n s j b))
     ∙ whole
 
 module _ (n : ℕ) (ws : List ℕ) (long : length ws ≡ n) where
@@ -47,16 +47,16 @@ module _ (n : ℕ) (ws : List ℕ) (long : length ws ≡ n) where
       words_there n ws (sets out 0 (bytes_for ws)) long (written_stands (bytes_for ws) out (omega (arith, bytes_long ws))) small
 
   -- the bytes of words that are written over those of a list are the bytes of the list with these words in front
-  pub words-over : (l : List ℕ) → n ≤ length l → sets (bytes_for l) 0 (bytes_for ws) ≡ bytes_for (ws ++ drop n l)
-  words-over l fits =
+  pub words_over : (l : List ℕ) → n ≤ length l → sets (bytes_for l) 0 (bytes_for ws) ≡ bytes_for (ws ++ drop n l)
+  words_over l fits =
       let k : length (bytes_for (take n l)) ≡ n * 8 = bytes_long (take n l) ∙ ap (λ (m : ℕ). m * 8) (length-take-le n l fits) in
       let e : 0 + length (bytes_for ws) ≡ n * 8 = omega (arith, bytes_long ws) in
       let cut : bytes_for l ≡ bytes_for (take n l) ++ bytes_for (drop n l) =
-      ap bytes_for (sym (take-append-drop n l)) ∙ blocks-append (digits 8) (take n l) (drop n l) in
+      ap bytes_for (sym (take-append-drop n l)) ∙ blocks_append (digits 8) (take n l) (drop n l) in
       sets-eq (bytes_for ws) (bytes_for l) 0 (omega (arith, bytes_long ws, bytes_long l))
       ∙ (λ t. bytes_for ws ++ drop (e t) (cut t))
       ∙ ap (λ (x : List ℕ). bytes_for ws ++ x) (drop_at (bytes_for (take n l)) (bytes_for (drop n l)) (n * 8) k)
-      ∙ sym (blocks-append (digits 8) ws (drop n l))
+      ∙ sym (blocks_append (digits 8) ws (drop n l))
 
 -- words of 64 bits are read of their own bytes
 pub words_own : (ws : List ℕ) → ((i : ℕ) → i < length ws → get_or ws i 0 < 2 ^ 64) → words_in (length ws) (bytes_for ws) ≡ ws

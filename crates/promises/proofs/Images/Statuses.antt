@@ -138,25 +138,25 @@ module _ (s : Set) (fine : fault_of s ≡ none) where
         go none = (omega arith, omega arith)
         go (some t) = g t
 
-  pub add-told : (d : ℕ) → Told IsHandle (add_of s d).answer
+  pub add_told : (d : ℕ) → Told IsHandle (add_of s d).answer
   unfolding add_of
-  add-told d = open_told IsHandle s (added_at s d (lowest_free s)) (go (lowest_free s) refl)
+  add_told d = open_told IsHandle s (added_at s d (lowest_free s)) (go (lowest_free s) refl)
     where
       go : (x : Option ℕ) → lowest_free s ≡ x → Told IsHandle (added_at s d x).answer
       go none e = (omega arith, omega arith)
       go (some p) e = place_ranged p (lowest_in s p e)
 
-  pub reset-told : (h : Handle) (d : ℕ) → Told IsNothing (reset_of s h d).answer
+  pub reset_told : (h : Handle) (d : ℕ) → Told IsNothing (reset_of s h d).answer
   unfolding reset_of
-  reset-told h d = open_told IsNothing s _ (alive_told IsNothing h _ (λ t. tt))
+  reset_told h d = open_told IsNothing s _ (alive_told IsNothing h _ (λ t. tt))
 
-  pub cancel-told : (h : Handle) → Told IsNothing (cancel_of s h).answer
+  pub cancel_told : (h : Handle) → Told IsNothing (cancel_of s h).answer
   unfolding cancel_of
-  cancel-told h = open_told IsNothing s _ (alive_told IsNothing h _ (λ t. tt))
+  cancel_told h = open_told IsNothing s _ (alive_told IsNothing h _ (λ t. tt))
 
-  pub turn-told : (N : ℕ) (l : List ℕ) → Told IsCounts (turn_of s N l).answer
+  pub turn_told : (N : ℕ) (l : List ℕ) → Told IsCounts (turn_of s N l).answer
   unfolding turn_of
-  turn-told N l = open_told IsCounts (lent s l) (roomy s l (rang (advanced_of (drained_of s) N l))) (go (leb cap (length l)))
+  turn_told N l = open_told IsCounts (lent s l) (roomy s l (rang (advanced_of (drained_of s) N l))) (go (leb cap (length l)))
     where
       go : (b : Bool) → Told IsCounts (cond b (rang (advanced_of (drained_of s) N l)) (refusing (lent s l) ShortList)).answer
       go true = tt

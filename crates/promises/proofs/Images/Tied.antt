@@ -26,9 +26,9 @@ use Rattle.timers.specs.Values.{Value, nothing, handle, counts, wake, handle_in}
 use Rattle.timers.specs.Calls.{step}
 use Rattle.image.specs.Image.{size, image_of}
 use Rattle.laws.specs.Widths.{Given, IsTime}
-use Rattle.laws.proofs.AnyCall.CallCases.{wake-by}
+use Rattle.laws.proofs.AnyCall.CallCases.{wake_by_lem}
 use Rattle.laws.proofs.Soundness.StepSound.{step_sound}
-use Rattle.laws.proofs.Widths.Calls.{widths-words, step-widths}
+use Rattle.laws.proofs.Widths.Calls.{widths_words, step_widths}
 use Rattle.host.specs.Numbers.{status_of, handle_from}
 use Rattle.host.specs.Calls.{fresh_on}
 use Rattle.host.specs.Seen.{word_or, count_or, wake_in, any_or, time_or}
@@ -36,8 +36,8 @@ use Rattle.promises.specs.Engine.{ours}
 use Rattle.promises.specs.Beside.{plain, Together, Beside}
 use Rattle.promises.specs.Images.{by_status, wake_of, hosted_step, lent_bytes, hosted, in_word, exported}
 use Rattle.promises.proofs.Images.Reading.{faultless}
-use Rattle.promises.proofs.Images.Statuses.{added_back, done_back, turned_back, woken_back, add-told, reset-told, cancel-told, turn-told, wake_told}
-use Rattle.promises.proofs.Images.Calls.{add-pictures, reset_pictures, cancel_pictures, turn_pictures, wake-answers}
+use Rattle.promises.proofs.Images.Statuses.{added_back, done_back, turned_back, woken_back, add_told, reset_told, cancel_told, turn_told, wake_told}
+use Rattle.promises.proofs.Images.Calls.{add_pictures, reset_pictures, cancel_pictures, turn_pictures, wake_answers}
 
 -- the image of a sound set, whose numbers have their widths
 pub record Tied (b : List ℕ) (s : Set) : Type 0 where
@@ -69,7 +69,7 @@ in_word_lem h a = ltb-true h.place.0 (2 ^ 16) (and_right (ltb h.uses (2 ^ 32)) (
 -- a next wake keeps the set
 wake_keeps : (s : Set) (l : List ℕ) → (step s C.NextWake l).state.set ≡ s
 unfolding step
-wake_keeps s l = wake-by (λ o. o.state ≡ s) s (λ a _. refl) (λ v. refl)
+wake_keeps s l = wake_by_lem (λ o. o.state ≡ s) s (λ a _. refl) (λ v. refl)
 
 -- the fresh image is that of the fresh set
 lent_long : length lent_bytes ≡ size
@@ -91,40 +91,40 @@ module _ (s : Set) (ok : Sound s) (w : Widths s) where
     lists = lists;
     tied = record {
       is_image = image;
-      sound = step_sound s ok (widths-words s ok w) c l;
-      widths = step-widths s ok w c (exported_given c a) l;
+      sound = step_sound s ok (widths_words s ok w) c l;
+      widths = step_widths s ok w c (exported_given c a) l;
     };
   }
 
   at_call : (c : Call) (l : List ℕ) → exported c ≡ true → Together hosted ours Tied (image_of s) s c l
   unfolding hosted_step step
   at_call (C.Add d) l a =
-      let p = add-pictures s ok w d l in
+      let p = add_pictures s ok w d l in
       together (C.Add d) l a
       (ap (λ (x : Answer Value). by_status (status_of x) (handle (handle_from (word_or 0 (handle_in x))))) p.answers
-      ∙ added_back (step s (C.Add d) l).answer (add-told s (faultless s ok) d))
+      ∙ added_back (step s (C.Add d) l).answer (add_told s (faultless s ok) d))
       refl p.image
   at_call (C.Reset h d) l a =
       let p = reset_pictures s ok w h (in_word_lem h (and_left (in_word h) (ltb d (2 ^ 64)) a)) d l in
       together (C.Reset h d) l a
       (ap (λ (x : Answer Value). by_status (status_of x) nothing) p.answers
-      ∙ done_back (step s (C.Reset h d) l).answer (reset-told s (faultless s ok) h d))
+      ∙ done_back (step s (C.Reset h d) l).answer (reset_told s (faultless s ok) h d))
       refl p.image
   at_call (C.Cancel h) l a =
       let p = cancel_pictures s ok w h (in_word_lem h a) l in
       together (C.Cancel h) l a
       (ap (λ (x : Answer Value). by_status (status_of x) nothing) p.answers
-      ∙ done_back (step s (C.Cancel h) l).answer (cancel-told s (faultless s ok) h))
+      ∙ done_back (step s (C.Cancel h) l).answer (cancel_told s (faultless s ok) h))
       refl p.image
   at_call (C.Turn N) l a =
       let p = turn_pictures s ok w N l in
       together (C.Turn N) l a
       (ap (λ (x : Answer Value). by_status (status_of x) (counts (count_or 0 x) 0)) p.answers
-      ∙ turned_back (step s (C.Turn N) l).answer (turn-told s (faultless s ok) N l))
+      ∙ turned_back (step s (C.Turn N) l).answer (turn_told s (faultless s ok) N l))
       p.words p.image
   at_call C.NextWake l a =
       together C.NextWake l a
-      (ap (λ (x : Answer Value). by_status (status_of x) (wake (wake_of (any_or 0 (wake_in x)) (time_or 0 (wake_in x))))) (wake-answers s ok w l)
+      (ap (λ (x : Answer Value). by_status (status_of x) (wake (wake_of (any_or 0 (wake_in x)) (time_or 0 (wake_in x))))) (wake_answers s ok w l)
       ∙ woken_back (step s C.NextWake l).answer (wake_told s (faultless s ok)))
       refl (ap image_of (sym (wake_keeps s l)))
   at_call C.Drain l a = true_false a refl

@@ -93,8 +93,8 @@ stale_apart e g n s b q =
 
 module _ (B : Type 0) (t : Timing) (wait : Bool) (o : Option Entry) (l : Line) (k : Living B t wait o l) where
   -- after a reset
-  pub living-reset : (d : ℕ) → Living B (record { word = reset_of t.word; due = d }) true o (moved d l)
-  living-reset d =
+  pub living_reset : (d : ℕ) → Living B (record { word = reset_of t.word; due = d }) true o (moved d l)
+  living_reset d =
       let y = k.young in
       record {
         known = k.known;
@@ -125,8 +125,8 @@ module _ (B : Type 0) (t : Timing) (wait : Bool) (o : Option Entry) (l : Line) (
       outdated b false w e q = fresh b w l.reported refl e q
 
   -- after a drain: one that waited has an entry of its own now, the other keeps what it had
-  pub living-drained : (r : Option Entry) → (wait ≡ true → Armed r t.due (generation_of t.word)) → (wait ≡ false → r ≡ o) → Living B t false r (cleared l)
-  living-drained r new old = record {
+  pub living_drained : (r : Option Entry) → (wait ≡ true → Armed r t.due (generation_of t.word)) → (wait ≡ false → r ≡ o) → Living B t false r (cleared l)
+  living_drained r new old = record {
     known = k.known;
     agreed = k.agreed;
     generation = k.generation;

@@ -18,7 +18,7 @@ use Rattle.timers.specs.Calls.{Timing, live_at, poll_by}
 use Rattle.laws.specs.ByHandle.{Marks}
 use Rattle.laws.specs.EntryOf.{entry_of, waiting}
 use Rattle.laws.proofs.Handles.ByHandle.{closed_keeps_due}
-use Rattle.laws.proofs.PlaceByPlace.Marked.{closed-marks, closed-marks-entry}
+use Rattle.laws.proofs.PlaceByPlace.Marked.{closed_marks, closed_marks_entry}
 use Rattle.laws.proofs.Handles.Still.{marks_fired}
 use Rattle.promises.specs.Turns.{Line, Ledger}
 use Rattle.promises.proofs.Ledger.Tracks.{Stands, Tracks}
@@ -72,5 +72,5 @@ close_rests B s L ok tracks h = go (live_at s h) refl (tracks h)
 
         told : (b : Bool) → (L.line h).reported ≡ b → (w : Bool) → waiting s h.place.0 ≡ w → Rests (live_at (closed_of s) h) (L.line h)
         told true r w x = let k = (closed_keeps_due s h).live t e in rw k.2 (st.known, fired r k.0 k.1)
-        told false r true x = marked r (closed-marks s ok h t e (inl x))
-        told false r false x = let a = st.armed x r in marked r (closed-marks-entry s ok h t e a.it a.found)
+        told false r true x = marked r (closed_marks s ok h t e (inl x))
+        told false r false x = let a = st.armed x r in marked r (closed_marks_entry s ok h t e a.it a.found)

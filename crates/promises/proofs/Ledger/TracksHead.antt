@@ -19,7 +19,7 @@ use Rattle.moves.specs.Rules.{Ring, reports}
 use Rattle.timers.specs.Calls.{Timing, timing_of, live_at}
 use Rattle.laws.specs.EntryOf.{entry_of, waiting}
 use Rattle.laws.proofs.Handles.Naming.{names_same, live_in_range, live_told}
-use Rattle.laws.proofs.Entries.EntryOfPop.{head-entry}
+use Rattle.laws.proofs.Entries.EntryOfPop.{head_entry}
 use Rattle.laws.proofs.Reporting.Written.{head_reports}
 use Rattle.promises.specs.Turns.{Line, Ledger, owed}
 use Rattle.promises.proofs.Ledger.Tracks.{Living, Stands, Tracks, bit_small, stale_apart, fired_unreported}
@@ -97,7 +97,7 @@ module _ (B : Type 0) (r : Ring) (L : Ledger) (tracks : Tracks B r.set L) (sound
     not_waiting low safe true w =
         let z = safe p (head_in B r L tracks sound b) w in
         let g : e.generation ≡ k.generation = omega (arith, k.word_is, hit.3, bit_small (L.line (head_handle r)).reported) in
-        absurd (stale_apart e k.generation (L.line (head_handle r)).resets (k.stale z w e (head-entry r.set sound b)) (low z) g)
+        absurd (stale_apart e k.generation (L.line (head_handle r)).resets (k.stale z w e (head_entry r.set sound b)) (low z) g)
 
     -- it is ready, and its deadline is the entry's
     pub head_ready : (B → (L.line (head_handle r)).resets < 2 ^ 30) → Safe B r.set
@@ -105,7 +105,7 @@ module _ (B : Type 0) (r : Ring) (L : Ledger) (tracks : Tracks B r.set L) (sound
     unfolding t
     head_ready low safe =
         let w = not_waiting low safe (waiting r.set p) refl in
-        let u = fired_unreported B t (waiting r.set p) (entry_of r.set p) (L.line (head_handle r)) k e (head-entry r.set sound b) hit.3 in
+        let u = fired_unreported B t (waiting r.set p) (entry_of r.set p) (L.line (head_handle r)) k e (head_entry r.set sound b) hit.3 in
         let a = k.armed w u in
-        let z : a.it ≡ e = cc (a.found, head-entry r.set sound b) in
+        let z : a.it ≡ e = cc (a.found, head_entry r.set sound b) in
         (rw (k.known, u, k.drained_is, w) refl, k.agreed ∙ sym a.same_at ∙ ap (λ (x : Entry). x.at) z)

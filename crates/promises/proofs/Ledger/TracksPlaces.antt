@@ -28,8 +28,8 @@ use Rattle.laws.specs.Words.{Words}
 use Rattle.laws.specs.Rooms.{given_by, given_of, is_cancelled, InUses}
 use Rattle.laws.proofs.AnyCall.Found.{lowest_free_lem, lowest_in}
 use Rattle.laws.proofs.Handles.Naming.{live_told}
-use Rattle.laws.proofs.Handles.ByHandle.{handle_at, touched-here, one_handle}
-use Rattle.laws.proofs.Entries.EntryOfTouch.{touched-other}
+use Rattle.laws.proofs.Handles.ByHandle.{handle_at, touched_here, one_handle}
+use Rattle.laws.proofs.Entries.EntryOfTouch.{touched_other}
 use Rattle.laws.proofs.PlaceByPlace.Rooms as Rooms
 use Rattle.promises.specs.Turns.{Line, Ledger, blank, begun, moved, ended, at, one_more}
 use Rattle.promises.proofs.Ledger.Told.{told, swept}
@@ -82,59 +82,59 @@ module _ (s : Set) (L : Ledger) (o : Housed s L) (long : length s.timers ≡ cap
   abbrev r : Set
   r = touched_of s p l
 
-  touched-uses : (timer_at r p).uses ≡ h.uses
-  touched-uses = (touched-here s p l long b).0 ∙ u
+  touched_uses : (timer_at r p).uses ≡ h.uses
+  touched_uses = (touched_here s p l long b).0 ∙ u
 
   -- its own handle leaves where it is cancelled
   left_here : leaving_at r h ≡ is_cancelled l
-  left_here = leaving_in r h b ∙ leaves_same (timer_at r p) h.uses touched-uses ∙ Rooms.touched-cancelled s p l long b
+  left_here = leaving_in r h b ∙ leaves_same (timer_at r p) h.uses touched_uses ∙ Rooms.touched_cancelled s p l long b
 
   -- every other handle leaves as it did
   left_there : (k : Handle) → k ≢ h → leaving_at r k ≡ leaving_at s k
   left_there k m = by_cases (ℕ_discrete k.place.0 p)
       (λ e.
-      let c : (timer_at r k.place.0).uses ≢ k.uses = λ q. m (one_handle h k e (sym q ∙ ap (λ (x : ℕ). (timer_at r x).uses) e ∙ touched-uses)) in
+      let c : (timer_at r k.place.0).uses ≢ k.uses = λ q. m (one_handle h k e (sym q ∙ ap (λ (x : ℕ). (timer_at r x).uses) e ∙ touched_uses)) in
       let d : (timer_at s k.place.0).uses ≢ k.uses = λ q. m (one_handle h k e (sym q ∙ ap (λ (x : ℕ). (timer_at s x).uses) e ∙ u)) in
       leaving_by s r k (leaves_other (timer_at r k.place.0) k.uses c ∙ sym (leaves_other (timer_at s k.place.0) k.uses d)))
-      (λ d. leaving_by s r k (ap (λ (t : Timer). leaves t k.uses) (touched-other s p l k.place.0 d)))
+      (λ d. leaving_by s r k (ap (λ (t : Timer). leaves t k.uses) (touched_other s p l k.place.0 d)))
 
-  given-here : given_of (timer_at r p) ≡ suc h.uses
-  given-here = Rooms.touched-given s p l long b ∙ rw f (ap suc u)
+  given_here : given_of (timer_at r p) ≡ suc h.uses
+  given_here = Rooms.touched_given s p l long b ∙ rw f (ap suc u)
 
   -- a ledger that has the touched handle's line rewritten, and its place's count where that is new
-  touched-housed : (M : Ledger) → M.given p ≡ suc h.uses → ((x : ℕ) → x ≢ p → M.given x ≡ L.given x)
+  touched_housed : (M : Ledger) → M.given p ≡ suc h.uses → ((x : ℕ) → x ≢ p → M.given x ≡ L.given x)
       → (M.line h).leaving ≡ is_cancelled l → ((k : Handle) → k ≢ h → (M.line k).leaving ≡ (L.line k).leaving) → Housed r M
-  touched-housed M g others c rest = record {
+  touched_housed M g others c rest = record {
     counted = λ x i. by_cases (ℕ_discrete x p)
-        (λ e. subst (λ (y : ℕ). M.given y ≡ given_of (timer_at r y)) (sym e) (g ∙ sym given-here))
-        (λ d. others x d ∙ o.counted x i ∙ ap given_of (sym (touched-other s p l x d)));
+        (λ e. subst (λ (y : ℕ). M.given y ≡ given_of (timer_at r y)) (sym e) (g ∙ sym given_here))
+        (λ d. others x d ∙ o.counted x i ∙ ap given_of (sym (touched_other s p l x d)));
     left = λ k. by_cases (handle_discrete k h)
         (λ e. subst (λ (y : Handle). (M.line y).leaving ≡ leaving_at r y) (sym e) (c ∙ sym left_here))
         (λ d. rest k d ∙ o.left k ∙ sym (left_there k d));
     in_uses = λ x i. by_cases (ℕ_discrete x p)
-        (λ e. subst (λ (y : ℕ). InUses (timer_at r y)) (sym e) (Rooms.touched-in-uses s p l long b n (o.in_uses p b)))
-        (λ d. subst InUses (sym (touched-other s p l x d)) (o.in_uses x i));
+        (λ e. subst (λ (y : ℕ). InUses (timer_at r y)) (sym e) (Rooms.touched_in_uses s p l long b n (o.in_uses p b)))
+        (λ d. subst InUses (sym (touched_other s p l x d)) (o.in_uses x i));
   }
 
   -- the line of the handle rewritten, which was given out
-  at-housed : (g : Line → Line) → L.given p ≡ suc h.uses → (g (L.line h)).leaving ≡ is_cancelled l → Housed r (at h g L)
-  at-housed g e c =
-      touched-housed (at h g L) e (λ x d. refl) (ap (λ (x : Line). x.leaving) (upd_same handle_discrete L.line h (g (L.line h))) ∙ c)
+  at_housed : (g : Line → Line) → L.given p ≡ suc h.uses → (g (L.line h)).leaving ≡ is_cancelled l → Housed r (at h g L)
+  at_housed g e c =
+      touched_housed (at h g L) e (λ x d. refl) (ap (λ (x : Line). x.leaving) (upd_same handle_discrete L.line h (g (L.line h))) ∙ c)
       (λ k d. ap (λ (x : Line). x.leaving) (upd_other handle_discrete L.line h (g (L.line h)) k d))
 
   -- the handle given out by an add
-  more-housed : (d : ℕ) → L.given p ≡ h.uses → is_cancelled l ≡ false → Housed r (one_more p (at h (begun d) L))
-  more-housed d e c =
-      touched-housed (one_more p (at h (begun d) L)) (upd_same ℕ_discrete L.given p (suc (L.given p)) ∙ ap suc e)
+  more_housed : (d : ℕ) → L.given p ≡ h.uses → is_cancelled l ≡ false → Housed r (one_more p (at h (begun d) L))
+  more_housed d e c =
+      touched_housed (one_more p (at h (begun d) L)) (upd_same ℕ_discrete L.given p (suc (L.given p)) ∙ ap suc e)
       (λ x m. upd_other ℕ_discrete L.given p (suc (L.given p)) x m)
       (ap (λ (x : Line). x.leaving) (upd_same handle_discrete L.line h (begun d (L.line h))) ∙ sym c)
       (λ k m. ap (λ (x : Line). x.leaving) (upd_other handle_discrete L.line h (begun d (L.line h)) k m))
 
 module _ (s : Set) (L : Ledger) (o : Housed s L) (sound : Sound s) where
   -- an add
-  pub add-housed : (q d : ℕ) → lowest_free s ≡ some q → Housed (touched_of s q (Live 0 d)) (one_more q (at (handle_at s q) (begun d) L))
-  add-housed q d e =
-      more-housed s L o sound.timers_long (handle_at s q) (lowest_in s q e) refl (Live 0 d) refl (λ z. let y : ◌≡◌ {A = ℕ} 0 1 = cc in omega arith) d
+  pub add_housed : (q d : ℕ) → lowest_free s ≡ some q → Housed (touched_of s q (Live 0 d)) (one_more q (at (handle_at s q) (begun d) L))
+  add_housed q d e =
+      more_housed s L o sound.timers_long (handle_at s q) (lowest_in s q e) refl (Live 0 d) refl (λ z. let y : ◌≡◌ {A = ℕ} 0 1 = cc in omega arith) d
       (o.counted q (lowest_in s q e) ∙ ap (λ (x : Life). given_by x (timer_at s q).uses) (lowest_free_lem s q e)) refl
 
   module _ (h : Handle) (t : Timing) (e : live_at s h ≡ some t) where
@@ -153,25 +153,25 @@ module _ (s : Set) (L : Ledger) (o : Housed s L) (sound : Sound s) where
     pub reset_housed : (w d : ℕ) → Housed (touched_of s h.place.0 (Live w d)) (at h (moved d) L)
     reset_housed w d =
         let k = live_told s h t e in
-        at-housed s L o sound.timers_long h k.in_range k.same_uses (Live w d) refl (λ z. let y : ◌≡◌ {A = ℕ} 0 1 = cc in omega arith) (moved d) live_counted live_stays
+        at_housed s L o sound.timers_long h k.in_range k.same_uses (Live w d) refl (λ z. let y : ◌≡◌ {A = ℕ} 0 1 = cc in omega arith) (moved d) live_counted live_stays
 
     -- a cancel
     pub cancel_housed : (w : ℕ) → Housed (touched_of s h.place.0 (Cancelled w)) (at h ended L)
     cancel_housed w =
         let k = live_told s h t e in
-        at-housed s L o sound.timers_long h k.in_range k.same_uses (Cancelled w) refl (λ z. let y : ◌≡◌ {A = ℕ} 0 1 = cc in omega arith) ended live_counted refl
+        at_housed s L o sound.timers_long h k.in_range k.same_uses (Cancelled w) refl (λ z. let y : ◌≡◌ {A = ℕ} 0 1 = cc in omega arith) ended live_counted refl
 
   -- a drain
-  pub drain-housed : s.closed ≡ false → Words s → Housed (drained_of s) (swept L)
-  drain-housed c words = record {
+  pub drain_housed : s.closed ≡ false → Words s → Housed (drained_of s) (swept L)
+  drain_housed c words = record {
     counted = λ p b. o.counted p b ∙ sym (Rooms.drained_given s p);
     left = none_leaving (drained_of s) (Rooms.drained_none_cancelled s sound c words);
     in_uses = λ p b. Rooms.drained_in_uses s p (o.in_uses p b);
   }
 
   -- an advance, whatever it reports
-  pub advance-housed : (N : ℕ) (l : List ℕ) (R : List Handle) → Housed (advanced_of s N l).set (told R L)
-  advance-housed N l R = record {
+  pub advance_housed : (N : ℕ) (l : List ℕ) (R : List Handle) → Housed (advanced_of s N l).set (told R L)
+  advance_housed N l R = record {
     counted = λ p b. o.counted p b ∙ sym (Rooms.advanced_given s N l p);
     left = λ h. o.left h ∙ sym (leaving_by s (advanced_of s N l).set h
         (rw (Rooms.advanced_uses s N l h.place.0, Rooms.advanced_cancelled s N l h.place.0) refl));
@@ -181,7 +181,7 @@ module _ (s : Set) (L : Ledger) (o : Housed s L) (sound : Sound s) where
 -- the fresh set
 pub fresh_housed : Housed fresh_of blank
 fresh_housed = record {
-  counted = λ p b. sym (Rooms.fresh-given p b);
-  left = none_leaving fresh_of Rooms.fresh-cancelled;
-  in_uses = Rooms.fresh-in-uses;
+  counted = λ p b. sym (Rooms.fresh_given p b);
+  left = none_leaving fresh_of Rooms.fresh_cancelled;
+  in_uses = Rooms.fresh_in_uses;
 }

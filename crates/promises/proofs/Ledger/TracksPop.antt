@@ -27,7 +27,7 @@ use Rattle.laws.specs.EntryOf.{entry_of, waiting}
 use Rattle.laws.proofs.Handles.Naming.{names, names_same, live_by, live_in_range, live_told}
 use Rattle.laws.proofs.Handles.Still.{rung_stays}
 use Rattle.laws.proofs.Handles.ByHandle.{one_handle}
-use Rattle.laws.proofs.Entries.EntryOfPop.{head-entry, rung-timer-other, rung-timer-head, rung-entry-other, rung-entry-head}
+use Rattle.laws.proofs.Entries.EntryOfPop.{head_entry, rung_timer_other, rung_timer_head, rung_entry_other, rung_entry_head}
 use Rattle.laws.proofs.Reporting.Written.{head_reports}
 use Rattle.promises.specs.Turns.{Line, Ledger}
 use Rattle.promises.proofs.Ledger.Told.{told, told_none, told_other, told_same}
@@ -59,9 +59,9 @@ module _ (B : Type 0) (r : Ring) (L : Ledger) (tracks : Tracks B r.set L) (sound
   head_in = sound.entry_place 0 b
 
   -- the report, whether there is one, leaves the lines of all other handles
-  told-heard : (k : Handle) → k ≢ head_handle r → (m : Bool) → (told (heard_if m r) L).line k ≡ L.line k
-  told-heard k n true = told_other (head_handle r) k L n
-  told-heard k n false = ap (λ (M : Ledger). M.line k) (told_none L)
+  told_heard : (k : Handle) → k ≢ head_handle r → (m : Bool) → (told (heard_if m r) L).line k ≡ L.line k
+  told_heard k n true = told_other (head_handle r) k L n
+  told_heard k n false = ap (λ (M : Ledger). M.line k) (told_none L)
 
   -- a handle of another place
   module _ (k : Handle) (n : k.place.0 ≢ p) where
@@ -70,15 +70,15 @@ module _ (B : Type 0) (r : Ring) (L : Ledger) (tracks : Tracks B r.set L) (sound
 
     live_kept : live_at after k ≡ live_at r.set k
     live_kept =
-        live_by after k ∙ ap (λ (t : Timer). cond (ltb k.place.0 cap) (names t k.uses) none) (rung-timer-other r sound b k.place.0 n)
+        live_by after k ∙ ap (λ (t : Timer). cond (ltb k.place.0 cap) (names t k.uses) none) (rung_timer_other r sound b k.place.0 n)
         ∙ sym (live_by r.set k)
 
     there : (o : Option Timing) → live_at r.set k ≡ o → Stands B o (waiting r.set k.place.0) (entry_of r.set k.place.0) (L.line k)
         → Stands B o (waiting after k.place.0) (entry_of after k.place.0) ((told (heard r) L).line k)
-    there none q st = ap (λ (l : Line). l.live) (told-heard k not_head (head_reports r)) ∙ st
+    there none q st = ap (λ (l : Line). l.live) (told_heard k not_head (head_reports r)) ∙ st
     there (some t) q st =
-        stands_same B {o = some t} refl (ap (λ (x : Timer). is_waiting x.waiting) (rung-timer-other r sound b k.place.0 n))
-        (rung-entry-other r sound b k.place.0 (live_told r.set k t q).in_range n) (told-heard k not_head (head_reports r)) st
+        stands_same B {o = some t} refl (ap (λ (x : Timer). is_waiting x.waiting) (rung_timer_other r sound b k.place.0 n))
+        (rung_entry_other r sound b k.place.0 (live_told r.set k t q).in_range n) (told_heard k not_head (head_reports r)) st
 
     other_tracks : Stands B (live_at after k) (waiting after k.place.0) (entry_of after k.place.0) ((told (heard r) L).line k)
     other_tracks = stands_same B {o = live_at r.set k} live_kept refl refl refl (there (live_at r.set k) refl (tracks k))
@@ -89,7 +89,7 @@ module _ (B : Type 0) (r : Ring) (L : Ledger) (tracks : Tracks B r.set L) (sound
     names_then =
         live_in_range after k (subst (λ (x : ℕ). x < cap) (sym at) head_in)
         ∙ ap (λ (x : ℕ). names (timer_at after x) k.uses) at
-        ∙ ap (λ (t : Timer). names t k.uses) (rung-timer-head r sound b)
+        ∙ ap (λ (t : Timer). names t k.uses) (rung_timer_head r sound b)
 
     names_now : live_at r.set k ≡ names (timer_at r.set p) k.uses
     names_now = live_in_range r.set k (subst (λ (x : ℕ). x < cap) (sym at) head_in) ∙ ap (λ (x : ℕ). names (timer_at r.set x) k.uses) at
@@ -99,47 +99,47 @@ module _ (B : Type 0) (r : Ring) (L : Ledger) (tracks : Tracks B r.set L) (sound
     dead_then q = names_then ∙ (rung_stays e.generation (timer_at r.set p) k.uses).dead (sym names_now ∙ q)
 
     module _ (t : Timing) (q : live_at r.set k ≡ some t) where
-      life-is : (timer_at r.set p).life ≡ Live t.word t.due
-      life-is = ap (λ (x : ℕ). (timer_at r.set x).life) (sym at) ∙ (live_told r.set k t q).is_live
+      life_is : (timer_at r.set p).life ≡ Live t.word t.due
+      life_is = ap (λ (x : ℕ). (timer_at r.set x).life) (sym at) ∙ (live_told r.set k t q).is_live
 
-      uses-is : (timer_at r.set p).uses ≡ k.uses
-      uses-is = ap (λ (x : ℕ). (timer_at r.set x).uses) (sym at) ∙ (live_told r.set k t q).same_uses
+      uses_is : (timer_at r.set p).uses ≡ k.uses
+      uses_is = ap (λ (x : ℕ). (timer_at r.set x).uses) (sym at) ∙ (live_told r.set k t q).same_uses
 
       -- it is the head's
-      is-head : k ≡ head_handle r
-      is-head = one_handle (head_handle r) k at (sym uses-is)
+      is_head : k ≡ head_handle r
+      is_head = one_handle (head_handle r) k at (sym uses_is)
 
       -- it is reported where its word matches
-      reports-is : head_reports r ≡ matches_in t.word e.generation
-      reports-is = ap (reports e.generation) life-is
+      reports_is : head_reports r ≡ matches_in t.word e.generation
+      reports_is = ap (reports e.generation) life_is
 
       then_is : live_at after k ≡ some (record { word = rung_word t.word e.generation; due = t.due })
       then_is =
-          names_then ∙ names_same (rung_timer e.generation (timer_at r.set p)) k.uses uses-is
-          ∙ ap (λ (l : Life). timing_of (rung_life e.generation l)) life-is
+          names_then ∙ names_same (rung_timer e.generation (timer_at r.set p)) k.uses uses_is
+          ∙ ap (λ (l : Life). timing_of (rung_life e.generation l)) life_is
 
       -- how it stood, with its entry
       pub stood : Living B t (waiting r.set p) (entry_of r.set p) (L.line k)
       stood = subst (λ (x : ℕ). Living B t (waiting r.set x) (entry_of r.set x) (L.line k)) at
           (subst (λ (o : Option Timing). Stands B o (waiting r.set k.place.0) (entry_of r.set k.place.0) (L.line k)) q (tracks k))
 
-      waits-is : waiting after k.place.0 ≡ waiting r.set p
-      waits-is = ap (waiting after) at ∙ ap (λ (x : Timer). is_waiting x.waiting) (rung-timer-head r sound b)
+      waits_is : waiting after k.place.0 ≡ waiting r.set p
+      waits_is = ap (waiting after) at ∙ ap (λ (x : Timer). is_waiting x.waiting) (rung_timer_head r sound b)
 
       bare : entry_of after k.place.0 ≡ none
-      bare = ap (entry_of after) at ∙ rung-entry-head r sound b
+      bare = ap (entry_of after) at ∙ rung_entry_head r sound b
 
       here : (B → (L.line k).resets < 2 ^ 30) → (m : Bool) → matches_in t.word e.generation ≡ m
           → Stands B (live_at after k) (waiting after k.place.0) (entry_of after k.place.0) ((told (heard r) L).line k)
       here low true m =
-          stands_same B (then_is ∙ ap (λ (c : Bool). some (record { word = cond c (fired_of t.word) t.word; due = t.due })) m) waits-is bare
-          (ap (λ (c : Bool). (told (heard_if c r) L).line k) (reports-is ∙ m) ∙ ap (λ (x : Handle). (told (x ∷ []) L).line k) (sym is-head) ∙ told_same k L)
-          (living_fired B t (waiting r.set p) (entry_of r.set p) (L.line k) stood e (head-entry r.set sound b) low
+          stands_same B (then_is ∙ ap (λ (c : Bool). some (record { word = cond c (fired_of t.word) t.word; due = t.due })) m) waits_is bare
+          (ap (λ (c : Bool). (told (heard_if c r) L).line k) (reports_is ∙ m) ∙ ap (λ (x : Handle). (told (x ∷ []) L).line k) (sym is_head) ∙ told_same k L)
+          (living_fired B t (waiting r.set p) (entry_of r.set p) (L.line k) stood e (head_entry r.set sound b) low
           (ref_true (ref_eq t.word (e.generation * 4)) m))
       here low false m =
-          stands_same B (then_is ∙ ap (λ (c : Bool). some (record { word = cond c (fired_of t.word) t.word; due = t.due })) m) waits-is bare
-          (ap (λ (c : Bool). (told (heard_if c r) L).line k) (reports-is ∙ m) ∙ ap (λ (M : Ledger). M.line k) (told_none L))
-          (living_stale B t (waiting r.set p) (entry_of r.set p) (L.line k) stood e (head-entry r.set sound b)
+          stands_same B (then_is ∙ ap (λ (c : Bool). some (record { word = cond c (fired_of t.word) t.word; due = t.due })) m) waits_is bare
+          (ap (λ (c : Bool). (told (heard_if c r) L).line k) (reports_is ∙ m) ∙ ap (λ (M : Ledger). M.line k) (told_none L))
+          (living_stale B t (waiting r.set p) (entry_of r.set p) (L.line k) stood e (head_entry r.set sound b)
           (λ x. true_false (eq-eqb t.word (e.generation * 4) x) m))
 
     head_tracks : (B → (L.line k).resets < 2 ^ 30) → Stands B (live_at after k) (waiting after k.place.0) (entry_of after k.place.0) ((told (heard r) L).line k)
@@ -152,5 +152,5 @@ module _ (B : Type 0) (r : Ring) (L : Ledger) (tracks : Tracks B r.set L) (sound
         go (some t) q = here t q low (matches_in t.word e.generation) refl
 
   -- all handles
-  pub pop-tracks : (B → (k : Handle) → (L.line k).resets < 2 ^ 30) → Tracks B after (told (heard r) L)
-  pop-tracks low k = by-ref (ref_eq k.place.0 p) (λ at. head_tracks k at (λ x. low x k)) (other_tracks k)
+  pub pop_tracks : (B → (k : Handle) → (L.line k).resets < 2 ^ 30) → Tracks B after (told (heard r) L)
+  pop_tracks low k = by-ref (ref_eq k.place.0 p) (λ at. head_tracks k at (λ x. low x k)) (other_tracks k)

@@ -25,7 +25,7 @@ use Rattle.state.specs.declared.Life.TheVariants.{Free, Live, Cancelled, Retired
 use Rattle.state.specs.declared.Set.{Set}
 use Rattle.state.specs.declared.Handle.{Handle}
 use Rattle.state.specs.State.{timer_at}
-use Rattle.state.proofs.Test.{sound-tells}
+use Rattle.state.proofs.Test.{sound_tells}
 use Rattle.moves.specs.Rules.{is_free, lowest_free, drained_of, Ring, advanced_of}
 use Rattle.timers.specs.declared.Call.{Call}
 use Rattle.timers.specs.declared.Call.TheVariants as C
@@ -38,7 +38,7 @@ use Rattle.laws.specs.EntryOf.{entry_of, waiting}
 use Rattle.laws.specs.Rooms.{given_by, is_cancelled}
 use Rattle.laws.proofs.AnyCall.Found.{lowest_free_lem, lowest_in}
 use Rattle.laws.proofs.Handles.Naming.{names_same, names_other, live_in_range, live_none}
-use Rattle.laws.proofs.Entries.EntryOfPop.{head-least}
+use Rattle.laws.proofs.Entries.EntryOfPop.{head_least}
 use Rattle.laws.proofs.PlaceByPlace.Rooms.{lowest_by}
 use Rattle.promises.specs.Turns.{Ledger, taken_by, taken_in, added_at, if_live, if_timed, Must, exactly, counting, Answers, while_open, once_closed, must}
 use Rattle.promises.proofs.Ledger.Tracks.{Living, Stands, Tracks}
@@ -50,7 +50,7 @@ use Rattle.promises.proofs.Ledger.TracksSteps.{Follows}
 -- a next wake of a set that fits is answered
 pub wake_answered : (s : Set) → Fit s → (l : List ℕ) → (step s C.NextWake l).answer ≡ accepted (wake (wake_by (peek_sound s.heap)))
 unfolding step Calls.next_wake_of guarded
-wake_answered s f l = rw (sound_none s (sound-tells s f.sound)) refl
+wake_answered s f l = rw (sound_none s (sound_tells s f.sound)) refl
 
 module _ (B : Type 0) (s : Set) (L : Ledger) (fit : Fit s) (f : Follows B s L) where
   -- THE TESTS THAT A CALL BEGINS WITH
@@ -58,11 +58,11 @@ module _ (B : Type 0) (s : Set) (L : Ledger) (fit : Fit s) (f : Follows B s L) w
   -- a set that fits passes the first
   passed : {S : Type 0} (k : S) (o : Outcome S Value) → guarded s k o ≡ o
   unfolding guarded
-  passed k o = rw (sound_none s (sound-tells s fit.sound)) refl
+  passed k o = rw (sound_none s (sound_tells s fit.sound)) refl
 
   -- an open one passes the second, and a closed one is refused with 2
-  let-in : {S : Type 0} (k : S) (o : Outcome S Value) → s.closed ≡ false → (guarded s k (opened s k o)).answer ≡ o.answer
-  let-in k o c = ap (λ (x : Outcome _ Value). x.answer) (passed k (opened s k o)) ∙ rw c refl
+  let_in : {S : Type 0} (k : S) (o : Outcome S Value) → s.closed ≡ false → (guarded s k (opened s k o)).answer ≡ o.answer
+  let_in k o c = ap (λ (x : Outcome _ Value). x.answer) (passed k (opened s k o)) ∙ rw c refl
 
   turned_away : {S : Type 0} (k : S) (o : Outcome S Value) → s.closed ≡ true → (guarded s k (opened s k o)).answer ≡ refused 2
   turned_away k o c = ap (λ (x : Outcome _ Value). x.answer) (passed k (opened s k o)) ∙ rw c refl
@@ -213,26 +213,26 @@ module _ (B : Type 0) (s : Set) (L : Ledger) (fit : Fit s) (f : Follows B s L) w
     by_room : (l : List ℕ) (r : Ring)
         → Answers (cond (ltb (length l) cap) (exactly (refused 5)) counting) (guarded s (lent s l) (opened s (lent s l) (roomy s l (rang r)))).answer
     by_room l r =
-        subst (Answers (cond (ltb (length l) cap) (exactly (refused 5)) counting)) (sym (let-in (lent s l) (roomy s l (rang r)) still))
+        subst (Answers (cond (ltb (length l) cap) (exactly (refused 5)) counting)) (sym (let_in (lent s l) (roomy s l (rang r)) still))
         (by-ref (ref_lt (length l) cap)
         (λ b. rw (lt-ltb (length l) cap b, lt-leb cap (length l) b) refl)
         (λ n. rw (le-ltb (length l) cap (omega arith), le-leb cap (length l) (omega arith)) (r.reported, r.popped, refl)))
 
     while_open_lem : (c : Call) (l : List ℕ) → Answers (must L c l) (step s c l).answer
     unfolding step Calls.add_of Calls.reset_of Calls.cancel_of Calls.drain_of Calls.advance_of Calls.turn_of Calls.poll_of Calls.close_of Calls.tick_at Calls.restart_at
-    while_open_lem (C.Add d) l = by_open (C.Add d) l _ (let-in s _ still ∙ by_add d)
-    while_open_lem (C.Reset h d) l = by_open (C.Reset h d) l _ (let-in s _ still ∙ by_line h _ (accepted nothing) (λ t k. refl))
-    while_open_lem (C.Cancel h) l = by_open (C.Cancel h) l _ (let-in s _ still ∙ by_line h _ (accepted nothing) (λ t k. refl))
-    while_open_lem C.Drain l = by_open C.Drain l _ (let-in s _ still)
+    while_open_lem (C.Add d) l = by_open (C.Add d) l _ (let_in s _ still ∙ by_add d)
+    while_open_lem (C.Reset h d) l = by_open (C.Reset h d) l _ (let_in s _ still ∙ by_line h _ (accepted nothing) (λ t k. refl))
+    while_open_lem (C.Cancel h) l = by_open (C.Cancel h) l _ (let_in s _ still ∙ by_line h _ (accepted nothing) (λ t k. refl))
+    while_open_lem C.Drain l = by_open C.Drain l _ (let_in s _ still)
     while_open_lem (C.Advance N) l = by_open (C.Advance N) l _ (by_room l (advanced_of s N l))
     while_open_lem (C.Turn N) l = by_open (C.Turn N) l _ (by_room l (advanced_of (drained_of s) N l))
     while_open_lem C.NextWake l = by_open C.NextWake l _ (wake_by (peek_sound s.heap), wake_answered s fit l)
     while_open_lem (C.Poll h) l = by_open (C.Poll h) l _ (ap (λ (x : Outcome _ Value). x.answer) (passed s _)
         ∙ by_line h _ (accepted (polled (cond (L.line h).reported 1 0)))
         (λ t k. ap (λ (n : ℕ). accepted (polled n)) (ap found k.word_is ∙ open_poll k.generation (L.line h).reported)))
-    while_open_lem C.Close l = by_open C.Close l _ (let-in s _ still)
-    while_open_lem (C.Tick h p period N) l = by_open (C.Tick h p period N) l _ (let-in s _ still ∙ by_line h _ _ (by_tick h p period N))
-    while_open_lem (C.Restart h period N) l = by_open (C.Restart h period N) l _ (let-in s _ still ∙ by_line h _ _ (λ t k. by_restart h t (restart_of period N)))
+    while_open_lem C.Close l = by_open C.Close l _ (let_in s _ still)
+    while_open_lem (C.Tick h p period N) l = by_open (C.Tick h p period N) l _ (let_in s _ still ∙ by_line h _ _ (by_tick h p period N))
+    while_open_lem (C.Restart h period N) l = by_open (C.Restart h period N) l _ (let_in s _ still ∙ by_line h _ _ (λ t k. by_restart h t (restart_of period N)))
 
     -- a next wake is never later than what is owed and drained
     pub wake_in_time : (h : Handle) (l : List ℕ) → ready (L.line h) ≡ true
@@ -240,7 +240,7 @@ module _ (B : Type 0) (s : Set) (L : Ledger) (fit : Fit s) (f : Follows B s L) w
     unfolding peek_sound
     wake_in_time h l y =
         let k = ready_entry B s L tracks h y in
-        let m = head-least s fit.sound h.place.0 k.it k.in_range k.found in (
+        let m = head_least s fit.sound h.place.0 k.it k.in_range k.found in (
           (entry_at s.heap 0).at,
           wake_answered s fit l ∙ rw (false_ref (ref_eq s.heap.len 0) (λ e. omega (arith, m.0))) refl,
           omega (arith, m.1, k.on_time),

@@ -28,8 +28,8 @@ use Rattle.laws.specs.EntryOf.{waiting}
 use Rattle.laws.specs.Rooms.{is_cancelled}
 use Rattle.laws.proofs.Handles.Naming.{names_same, live_in_range}
 use Rattle.laws.proofs.Handles.ByHandle.{handle_at}
-use Rattle.laws.proofs.AnyCall.CallCases.{LetIn, advance-by, turn_by}
-use Rattle.laws.proofs.Soundness.DrainSound.{drained-sound}
+use Rattle.laws.proofs.AnyCall.CallCases.{LetIn, advance_by, turn_by}
+use Rattle.laws.proofs.Soundness.DrainSound.{drained_sound}
 use Rattle.laws.proofs.Soundness.AdvancedSound.{from_start}
 use Rattle.laws.proofs.Reporting.AdvancedList.{Kept, rest_kept, advanced_rest}
 use Rattle.promises.specs.Turns.{Line, Ledger, owed, settled, seen, Exact, Least, Run, Accepted}
@@ -37,11 +37,11 @@ use Rattle.promises.specs.Engine.{handed, ours}
 use Rattle.promises.proofs.Ledger.Told.{swept}
 use Rattle.promises.proofs.Ledger.TracksTouch.{living}
 use Rattle.promises.proofs.Ledger.TracksPlaces.{leaving_in, leaves_same}
-use Rattle.promises.proofs.Ledger.TracksDrain.{none-waiting, drain-tracks}
+use Rattle.promises.proofs.Ledger.TracksDrain.{none_waiting, drain_tracks}
 use Rattle.promises.proofs.Ledger.TracksHead.{ready, Safe, not_true}
 use Rattle.promises.proofs.Ledger.TracksRing.{Rang, called}
 use Rattle.promises.proofs.Ledger.TracksSteps.{Low, advanced_rang, now}
-use Rattle.promises.proofs.OneMoment.Waking.{wake-least}
+use Rattle.promises.proofs.OneMoment.Waking.{wake_least}
 use Rattle.promises.proofs.Ledger.Runs.{Good}
 
 -- what is drained besides is the same
@@ -76,59 +76,59 @@ module _ (B : Type 0) (r : Run ours) (g : Good B r) (low : B → Low r.ledger) w
   L = r.ledger
 
   -- a drain clears the counts of resets
-  swept-low : B → Low (swept L)
-  swept-low _ h = omega arith
+  swept_low : B → Low (swept L)
+  swept_low _ h = omega arith
 
   -- the advance of a turn, after its drain
-  drained-rang : LetIn s → (N : ℕ) (l : List ℕ) → cap ≤ length l → Rang B (swept L) N 0 (from_start (drained_of s) l) (advanced_of (drained_of s) N l)
-  drained-rang a N l room =
-      advanced_rang B (drained_of s) (swept L) N l swept-low
-      (drain-tracks s g.fit.sound a.still_open g.fit.words B L (now B s L g.fit low g.follows a))
-      (drained-sound s g.fit.sound a.still_open g.fit.words) room
+  drained_rang : LetIn s → (N : ℕ) (l : List ℕ) → cap ≤ length l → Rang B (swept L) N 0 (from_start (drained_of s) l) (advanced_of (drained_of s) N l)
+  drained_rang a N l room =
+      advanced_rang B (drained_of s) (swept L) N l swept_low
+      (drain_tracks s g.fit.sound a.still_open g.fit.words B L (now B s L g.fit low g.follows a))
+      (drained_sound s g.fit.sound a.still_open g.fit.words) room
 
   -- nobody waits after a drain
   idle_then : LetIn s → (x : ℕ) → x < cap → waiting (drained_of s) x ≡ false
-  idle_then a = none-waiting s g.fit.sound a.still_open g.fit.words
+  idle_then a = none_waiting s g.fit.sound a.still_open g.fit.words
 
   -- an accepted turn
-  pub turn-exact : (N : ℕ) (l : List ℕ) → Accepted ours r (C.Turn N) l → Exact L owed N (seen (handed (step s (C.Turn N) l)))
+  pub turn_exact : (N : ℕ) (l : List ℕ) → Accepted ours r (C.Turn N) l → Exact L owed N (seen (handed (step s (C.Turn N) l)))
   unfolding step
-  turn-exact N l =
+  turn_exact N l =
       turn_by (λ o. is_accepted o.answer ≡ true → Exact L owed N (seen (handed o))) s l (λ a r y. true_false y r) N
       (λ a room _.
-      let k = drained-rang a N l room in
+      let k = drained_rang a N l room in
       let safe : Safe B (drained_of s) = λ x b w. true_false w (idle_then a x b) in
       exact_rang B (swept L) L owed N (drained_of s) l (advanced_of (drained_of s) N l) k safe
       (λ h. ap (λ (c : Bool). c && leb (L.line h).due N) (and_true (owed (L.line h)))) (k.sorted safe))
 
   -- an accepted advance
-  pub advance-exact : B → (N : ℕ) (l : List ℕ) → Accepted ours r (C.Advance N) l → Exact L ready N (seen (handed (step s (C.Advance N) l)))
+  pub advance_exact : B → (N : ℕ) (l : List ℕ) → Accepted ours r (C.Advance N) l → Exact L ready N (seen (handed (step s (C.Advance N) l)))
   unfolding step
-  advance-exact b N l =
-      advance-by (λ o. is_accepted o.answer ≡ true → Exact L ready N (seen (handed o))) s l (λ a r y. true_false y r) N
+  advance_exact b N l =
+      advance_by (λ o. is_accepted o.answer ≡ true → Exact L ready N (seen (handed o))) s l (λ a r y. true_false y r) N
       (λ a room _.
       let k = advanced_rang B s L N l low (now B s L g.fit low g.follows a) g.fit.sound room in
       exact_rang B L L ready N s l (advanced_of s N l) k (λ _ _ _. b) (λ h. refl) (k.sorted (λ _ _ _. b)))
 
   -- any call leaves the lent list as it was but for its reports
-  pub list-kept : (c : Call) (l : List ℕ) → let o = step s c l in Kept (reports_in o.answer) l o.state.list
+  pub list_kept : (c : Call) (l : List ℕ) → let o = step s c l in Kept (reports_in o.answer) l o.state.list
   unfolding step
-  list-kept (C.Add d) l = (refl, refl)
-  list-kept (C.Reset h d) l = (refl, refl)
-  list-kept (C.Cancel h) l = (refl, refl)
-  list-kept C.Drain l = (refl, refl)
-  list-kept (C.Advance N) l =
-      advance-by (λ o. Kept (reports_in o.answer) l o.state.list) s l (λ a r. (refl, refl)) N
+  list_kept (C.Add d) l = (refl, refl)
+  list_kept (C.Reset h d) l = (refl, refl)
+  list_kept (C.Cancel h) l = (refl, refl)
+  list_kept C.Drain l = (refl, refl)
+  list_kept (C.Advance N) l =
+      advance_by (λ o. Kept (reports_in o.answer) l o.state.list) s l (λ a r. (refl, refl)) N
       (λ a room. rest_kept s l (advanced_of s N l) (advanced_rest s N l g.fit.sound))
-  list-kept (C.Turn N) l =
+  list_kept (C.Turn N) l =
       turn_by (λ o. Kept (reports_in o.answer) l o.state.list) s l (λ a r. (refl, refl)) N
       (λ a room. rest_kept (drained_of s) l (advanced_of (drained_of s) N l)
-      (advanced_rest (drained_of s) N l (drained-sound s g.fit.sound a.still_open g.fit.words)))
-  list-kept C.NextWake l = (refl, refl)
-  list-kept (C.Poll h) l = (refl, refl)
-  list-kept C.Close l = (refl, refl)
-  list-kept (C.Tick h p period N) l = (refl, refl)
-  list-kept (C.Restart h period N) l = (refl, refl)
+      (advanced_rest (drained_of s) N l (drained_sound s g.fit.sound a.still_open g.fit.words)))
+  list_kept C.NextWake l = (refl, refl)
+  list_kept (C.Poll h) l = (refl, refl)
+  list_kept C.Close l = (refl, refl)
+  list_kept (C.Tick h p period N) l = (refl, refl)
+  list_kept (C.Restart h period N) l = (refl, refl)
 
   -- where all is settled nobody waits: a live timer that waits is not drained, and a cancelled one is leaving
   idle : L.closed ≡ false → ((h : Handle) → settled (L.line h) ≡ true) → (x : ℕ) → x < cap → waiting s x ≡ false
@@ -149,6 +149,6 @@ module _ (B : Type 0) (r : Run ours) (g : Good B r) (low : B → Low r.ledger) w
       go Retired e = ap is_waiting (g.fit.sound.retired_unused x b e).still
 
   -- the next wake where all is settled
-  pub settled-wake : B → L.closed ≡ false → ((h : Handle) → settled (L.line h) ≡ true) → Least L (wake_by (peek_sound s.heap))
-  settled-wake b c all =
-      wake-least B s L (g.follows.tracks c) g.fit.sound (idle c all) (λ h y. reached (L.line h) (all h) y) b
+  pub settled_wake : B → L.closed ≡ false → ((h : Handle) → settled (L.line h) ≡ true) → Least L (wake_by (peek_sound s.heap))
+  settled_wake b c all =
+      wake_least B s L (g.follows.tracks c) g.fit.sound (idle c all) (λ h y. reached (L.line h) (all h) y) b

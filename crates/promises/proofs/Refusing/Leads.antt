@@ -15,10 +15,10 @@ use Rattle.promises.specs.Table.{first_in, Leads, held_in}
 
 module _ (f : ℕ → Bool) where
   -- what is found leads
-  pub found-leads : (l : List ℕ) (n : ℕ) → first_in f l ≡ some n → Leads f l n
+  pub found_leads : (l : List ℕ) (n : ℕ) → first_in f l ≡ some n → Leads f l n
   unfolding first_in
-  found-leads [] n e = absurd (none_some refl e)
-  found-leads (m ∷ l) n e = go (f m) refl e (found-leads l n)
+  found_leads [] n e = absurd (none_some refl e)
+  found_leads (m ∷ l) n e = go (f m) refl e (found_leads l n)
     where
       go : (b : Bool) → f m ≡ b → cond b (some m) (first_in f l) ≡ some n → (first_in f l ≡ some n → Leads f l n) → Leads f (m ∷ l) n
       go true q e r =
@@ -41,9 +41,9 @@ module _ (f : ℕ → Bool) where
           }
 
   -- what leads is found
-  pub leads-found : (l : List ℕ) (n : ℕ) → Leads f l n → first_in f l ≡ some n
+  pub leads_found : (l : List ℕ) (n : ℕ) → Leads f l n → first_in f l ≡ some n
   unfolding first_in
-  leads-found l n t = ap (first_in f) t.stands ∙ past t.before t.none_before
+  leads_found l n t = ap (first_in f) t.stands ∙ past t.before t.none_before
     where
       past : (b : List ℕ) → ((m : ℕ) → Mem m b → f m ≡ false) → first_in f (b ++ (n ∷ t.after)) ≡ some n
       past [] h = rw t.holds

@@ -12,7 +12,7 @@ use borrow.Author.Tests.{not-true}
 use Rattle.theory.specs.Counting.{count}
 use Rattle.theory.specs.Least.{through, least_below}
 use Rattle.theory.proofs.Counting.{count_none, count_zero}
-use Rattle.theory.proofs.Least.{Found, Told, least-told}
+use Rattle.theory.proofs.Least.{Found, Told, least_told}
 use Rattle.theory.proofs.Tests.{ref_lt, ref_le, true_ref, false_ref, by-ref, ref_true, is_false, none_some, true_false, and_left, and_right}
 use Rattle.refusals.specs.declared.Refusal.TheVariants.{Unsound, Closed}
 use Rattle.refusals.specs.declared.fault.Fault.{Fault}
@@ -186,9 +186,9 @@ module _ (s : Set) (N : ℕ) where
       twice x true = refl
       twice x false = refl
 
-  soonest-row : (o : Option ℕ) → Told (pending_at s) cap o → refusal_in (least_by (through (left_at N) o)) ≡ cond (least_far s N) (some 6) none
-  soonest-row none k = sym (ap (λ (b : Bool). cond b (some 6) none) (nobody k))
-  soonest-row (some d) k = as_some (signed (left_at N d)) ∙ far_row d N ∙ sym (ap (λ (b : Bool). cond b (some 6) none) (earliest d k))
+  soonest_row : (o : Option ℕ) → Told (pending_at s) cap o → refusal_in (least_by (through (left_at N) o)) ≡ cond (least_far s N) (some 6) none
+  soonest_row none k = sym (ap (λ (b : Bool). cond b (some 6) none) (nobody k))
+  soonest_row (some d) k = as_some (signed (left_at N d)) ∙ far_row d N ∙ sym (ap (λ (b : Bool). cond b (some 6) none) (earliest d k))
     where
       as_some : (a : Answer ℤ) → refusal_in (or_none a) ≡ refusal_in a
       as_some (accepted z) = refl
@@ -200,4 +200,4 @@ pub least_left_row : (s : Set) (N : ℕ) → refusal_in (least_left_of s N) ≡ 
 unfolding least_left_of soonest_of
 least_left_row s N =
     tested_row s (least_by (least_below lt_z (λ p. through (left_at N) (pending_at s p)) cap)) (cond (least_far s N) (some 6) none)
-    (ap (λ (o : Option ℤ). refusal_in (least_by o)) (least_by_due s N) ∙ soonest-row s N (soonest_of s) (least-told (pending_at s) cap))
+    (ap (λ (o : Option ℤ). refusal_in (least_by o)) (least_by_due s N) ∙ soonest_row s N (soonest_of s) (least_told (pending_at s) cap))

@@ -12,7 +12,7 @@ use Rattle.moves.specs.Rules.{Ring, advanced_of}
 use Rattle.timers.specs.Calls.{rang, advance_of}
 use Rattle.timers.proofs.Guarding.{passed_both}
 use Rattle.timers.proofs.Sounding.{set_sound}
-use Rattle.timers.proofs.Lending.{turned_away, too_short, long-enough}
+use Rattle.timers.proofs.Lending.{turned_away, too_short, long_enough}
 use Rattle.timers.proofs.advance.Goals as goal
 
 pub returns-in-Refused : goal.returns-in-Refused
@@ -44,4 +44,4 @@ returns c =
     let a = c.args in
     let p = passed_both a.s (rw c.in_default.is at c.opened.ensures) in
     ap (λ (r : Ring). rang r) c.advanced-r.ensures
-    ∙ long-enough a.s a.list.now (rang (advanced_of a.s a.reading a.list.now)) p c.if-list-lt-CAP.false
+    ∙ long_enough a.s a.list.now (rang (advanced_of a.s a.reading a.list.now)) p c.if-list-lt-CAP.false

@@ -15,7 +15,7 @@ use Rattle.moves.proofs.DrainLaws.{drained_heap}
 use Rattle.timers.specs.Calls.{rang, turn_of}
 use Rattle.timers.proofs.Guarding.{passed_both}
 use Rattle.timers.proofs.Sounding.{set_sound}
-use Rattle.timers.proofs.Lending.{turned_away, too_short, long-enough}
+use Rattle.timers.proofs.Lending.{turned_away, too_short, long_enough}
 use Rattle.timers.proofs.turn.Goals as goal
 
 pub returns-in-Refused : goal.returns-in-Refused
@@ -57,4 +57,4 @@ returns c =
     let p = passed_both a.s (rw c.in_default.is at c.opened.ensures) in
     ap (λ (r : Ring). rang r)
     (c.advanced-r.ensures ∙ ap (λ (g : Set). advanced_of g a.reading a.list.now) c.drained.ensures)
-    ∙ long-enough a.s a.list.now (rang (advanced_of (drained_of a.s) a.reading a.list.now)) p c.if-list-lt-CAP.false
+    ∙ long_enough a.s a.list.now (rang (advanced_of (drained_of a.s) a.reading a.list.now)) p c.if-list-lt-CAP.false

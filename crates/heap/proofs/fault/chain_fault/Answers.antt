@@ -5,14 +5,14 @@
 use native.Mathlib.Omega.{arith}
 use Rattle.theory.proofs.Counting.{count_le}
 use Rattle.heap.specs.Faults.{full_at}
-use Rattle.heap.proofs.Testing.ChainLaws.{chain-starts, chain_past, chain_again, chain_full, chain_goes, chain_ends, chain_long}
+use Rattle.heap.proofs.Testing.ChainLaws.{chain_starts, chain_past, chain_again, chain_full, chain_goes, chain_ends, chain_long}
 use Rattle.heap.proofs.fault.chain_fault.Goals as goal
 
 pub overflow_sub-n : goal.overflow_sub-n
 overflow_sub-n c = omega (arith, count_le (full_at c.args.h) c.args.h.made, c.requires.counted)
 
 pub loop-step-init : goal.loop-step-init
-loop-step-init c = chain-starts c.args.h c.requires
+loop-step-init c = chain_starts c.args.h c.requires
 
 pub returns-then-h-s : goal.returns-then-h-s
 returns-then-h-s c = chain_past c.args.h c.loop-step.invariant (omega arith) c.if-h-s.true

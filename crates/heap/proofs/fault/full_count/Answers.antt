@@ -7,7 +7,7 @@ use Rattle.theory.specs.Counting.{count}
 use Rattle.theory.proofs.Counting.{count_yes, count_no}
 use Rattle.heap.specs.Faults.{full_at}
 use Rattle.heap.proofs.Slots.Slab.{full_at_lem}
-use Rattle.heap.proofs.Testing.FaultLaws.{full-no}
+use Rattle.heap.proofs.Testing.FaultLaws.{full_no}
 use Rattle.heap.proofs.fault.full_count.Goals as goal
 use Rattle.heap.proofs.fault.full_count.Goals.{in-Full, in_default}
 
@@ -21,5 +21,5 @@ loop-s-preserved c =
     let h = c.args.h in
     elim c.match-st.branch [
       | in-Full w ↦ (omega arith, omega arith, omega (arith, w.n-is, count_yes (full_at h) l.s (full_at_lem h l.s _ w.in-Full.is)))
-      | in_default w ↦ (omega arith, omega arith, omega (arith, w.n-is, count_no (full_at h) l.s (full-no h l.s w.in_default.is)))
+      | in_default w ↦ (omega arith, omega arith, omega (arith, w.n-is, count_no (full_at h) l.s (full_no h l.s w.in_default.is)))
     ]

@@ -5,7 +5,7 @@ use native.Mathlib.Omega.{arith}
 use borrow.Author.Rules.{rules}
 use Rattle.refusals.specs.declared.fault.Fault.TheVariants.{Order}
 use Rattle.heap.specs.Faults.{order_ok, order_fault}
-use Rattle.heap.proofs.Testing.FaultLaws.{scan, scan-goes, scan-here, scan-done, order-not}
+use Rattle.heap.proofs.Testing.FaultLaws.{scan, scan_goes, scan_here, scan_done, order_not}
 use Rattle.heap.proofs.fault.order_fault.Goals as goal
 
 pub loop-i-init : goal.loop-i-init
@@ -16,15 +16,15 @@ pub returns-then-before : goal.returns-then-before
 returns-then-before c =
     let h = c.args.h in
     let l = c.loop-i in
-    sym (scan-here Order (order_ok h) (omega arith) (order-not h l.i (sym c.before-in-loop-i.ensures ∙ c.if-before.true))) ∙ l.invariant.1
+    sym (scan_here Order (order_ok h) (omega arith) (order_not h l.i (sym c.before-in-loop-i.ensures ∙ c.if-before.true))) ∙ l.invariant.1
 
 pub loop-i-preserved : goal.loop-i-preserved
 loop-i-preserved c =
     let h = c.args.h in
     let l = c.loop-i in (
       omega arith,
-      scan-goes Order (order_ok h) (omega arith) (order-not h l.i (sym c.before-in-loop-i.ensures ∙ c.if-before.false)) ∙ l.invariant.1,
+      scan_goes Order (order_ok h) (omega arith) (order_not h l.i (sym c.before-in-loop-i.ensures ∙ c.if-before.false)) ∙ l.invariant.1,
     )
 
 pub returns : goal.returns
-returns c = sym (scan-done Order (order_ok c.args.h) c.loop-i-test.false) ∙ c.loop-i.invariant.1
+returns c = sym (scan_done Order (order_ok c.args.h) c.loop-i-test.false) ∙ c.loop-i.invariant.1

@@ -6,7 +6,7 @@ use native.Mathlib.Omega.{arith}
 use borrow.Author.Rules.{rules}
 use Rattle.refusals.specs.declared.fault.Fault.TheVariants.{Position}
 use Rattle.heap.specs.Faults.{position_ok, position_fault}
-use Rattle.heap.proofs.Testing.FaultLaws.{scan, scan-goes, scan-here, scan-done, position_past, position-empty, position-other, position-yes}
+use Rattle.heap.proofs.Testing.FaultLaws.{scan, scan_goes, scan_here, scan_done, position_past, position_empty, position_other, position_yes}
 use Rattle.heap.proofs.fault.position_fault.Goals as goal
 
 pub loop-i-init : goal.loop-i-init
@@ -17,19 +17,19 @@ pub returns-then-h-s : goal.returns-then-h-s
 returns-then-h-s c =
     let h = c.args.h in
     let l = c.loop-i in
-    sym (scan-here Position (position_ok h) (omega arith) (position_past h l.i c.if-h-s.true)) ∙ l.invariant.1
+    sym (scan_here Position (position_ok h) (omega arith) (position_past h l.i c.if-h-s.true)) ∙ l.invariant.1
 
 pub returns-in_default : goal.returns-in_default
 returns-in_default c =
     let h = c.args.h in
     let l = c.loop-i in
-    sym (scan-here Position (position_ok h) (omega arith) (position-empty h l.i c.if-h-s.false c.in_default.is)) ∙ l.invariant.1
+    sym (scan_here Position (position_ok h) (omega arith) (position_empty h l.i c.if-h-s.false c.in_default.is)) ∙ l.invariant.1
 
 pub returns-then-pos-at : goal.returns-then-pos-at
 returns-then-pos-at c =
     let h = c.args.h in
     let l = c.loop-i in
-    sym (scan-here Position (position_ok h) (omega arith) (position-other h l.i c.if-h-s.false c.in-Full.is c.if-pos-at.true))
+    sym (scan_here Position (position_ok h) (omega arith) (position_other h l.i c.if-h-s.false c.in-Full.is c.if-pos-at.true))
     ∙ l.invariant.1
 
 pub loop-i-preserved : goal.loop-i-preserved
@@ -37,8 +37,8 @@ loop-i-preserved c =
     let h = c.args.h in
     let l = c.loop-i in (
       omega arith,
-      scan-goes Position (position_ok h) (omega arith) (position-yes h l.i c.if-h-s.false c.in-Full.is c.if-pos-at.false) ∙ l.invariant.1,
+      scan_goes Position (position_ok h) (omega arith) (position_yes h l.i c.if-h-s.false c.in-Full.is c.if-pos-at.false) ∙ l.invariant.1,
     )
 
 pub returns : goal.returns
-returns c = sym (scan-done Position (position_ok c.args.h) c.loop-i-test.false) ∙ c.loop-i.invariant.1
+returns c = sym (scan_done Position (position_ok c.args.h) c.loop-i-test.false) ∙ c.loop-i.invariant.1

@@ -11,7 +11,7 @@ use Rattle.heap.specs.declared.SlabSlot.{SlabSlot}
 use Rattle.digits.specs.Rows.{used}
 use Rattle.theory.proofs.Stores.{unmapped}
 use Rattle.digits.proofs.Rows.{get_d_any}
-use Rattle.digits.proofs.Loops.{putting-none, putting-more, putting-all}
+use Rattle.digits.proofs.Loops.{putting_none, putting_more, putting_all}
 use Rattle.cells.specs.Cells.{slot_bytes}
 use Rattle.image.specs.Image.{slots_bytes, zero_slot}
 use Rattle.image.proofs.arrays.put_slots.Goals as goal
@@ -19,14 +19,14 @@ use Rattle.image.proofs.arrays.put_slots.Goals as goal
 pub loop-i-init : goal.loop-i-init
 loop-i-init c =
     let h = c.args.h in
-    (putting-none slot_bytes (used zero_slot h.made h.slots) cap 2 c.args.out.now c.args.at, search (rules, unmapped))
+    (putting_none slot_bytes (used zero_slot h.made h.slots) cap 2 c.args.out.now c.args.at, search (rules, unmapped))
 
 pub loop-i-preserved : goal.loop-i-preserved
 loop-i-preserved c =
     let h = c.args.h in
     let i = c.loop-i.i in
     let n : length h.slots ≡ cap = c.loop-i.invariant.1 in (
-      putting-more slot_bytes (used zero_slot h.made h.slots) cap 2 c.slot_if-s.result c.loop-i.invariant.0 c.loop-i-test.true
+      putting_more slot_bytes (used zero_slot h.made h.slots) cap 2 c.slot_if-s.result c.loop-i.invariant.0 c.loop-i-test.true
           (c.slot_if-s.ensures ∙ ap (λ (y : SlabSlot). cond (ltb i h.made) y zero_slot) (get_d_any h.slots i _ zero_slot (omega (arith, c.loop-i-test.true))))
           c.put_slot-next.ensures c.put_slot-next.auto.out,
       n,
@@ -34,4 +34,4 @@ loop-i-preserved c =
 
 pub returns : goal.returns
 unfolding slots_bytes
-returns c = putting-all slot_bytes (used zero_slot c.args.h.made c.args.h.slots) cap 2 c.loop-i.invariant.0 c.loop-i-test.false
+returns c = putting_all slot_bytes (used zero_slot c.args.h.made c.args.h.slots) cap 2 c.loop-i.invariant.0 c.loop-i-test.false

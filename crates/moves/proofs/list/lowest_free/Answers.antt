@@ -5,7 +5,7 @@ use mathlib.Core.Bool.{Bool, not}
 use Prim.Native.Nat.{ℕ, ◌+◌, ◌-◌}
 use native.Mathlib.Omega.{arith}
 use Rattle.theory.specs.First.{first_bad}
-use Rattle.theory.proofs.First.{first_goes, first-here, first_done}
+use Rattle.theory.proofs.First.{first_goes, first_here, first_done}
 use Rattle.heap.specs.Capacity.{cap}
 use Rattle.state.specs.declared.Set.{Set}
 use Rattle.state.specs.State.{timer_at}
@@ -24,7 +24,7 @@ loop-p-init c = refl
 pub returns-then-is_free : goal.returns-then-is_free
 returns-then-is_free c =
     let l = c.loop-p in
-    sym (first-here (taken c.args.s) (cap - l.p) l.p (omega arith) (taken_life c.args.s l.p (sym c.is_free.ensures ∙ c.if-is_free.true))) ∙ l.invariant
+    sym (first_here (taken c.args.s) (cap - l.p) l.p (omega arith) (taken_life c.args.s l.p (sym c.is_free.ensures ∙ c.if-is_free.true))) ∙ l.invariant
 
 pub loop-p-preserved : goal.loop-p-preserved
 loop-p-preserved c =

@@ -13,7 +13,7 @@ use Rattle.heap.specs.declared.Heap.{Heap}
 use Rattle.heap.specs.Calls.{Off}
 use Rattle.state.specs.declared.Set.{Set}
 use Rattle.moves.specs.Rules.{Ring, due_by, rung_of, advanced_of}
-use Rattle.moves.proofs.RingLaws.{ring-goes, ring-ends, ring-done, rung-told, rung-quiet, rung-out, rung-heap, rung-timers, rung-list, rung_reported, rung-popped}
+use Rattle.moves.proofs.RingLaws.{ring_goes, ring_ends, ring_done, rung_told, rung_quiet, rung_out, rung_heap, rung_timers, rung_list, rung_reported, rung_popped}
 use Rattle.moves.proofs.rings.advanced.Invariants.{Going}
 use Rattle.moves.proofs.rings.advanced.Goals as goal
 use Rattle.moves.proofs.rings.advanced.Goals.{then-p-lt-CAP, then-rings, else-rings, else-p-lt-CAP}
@@ -21,12 +21,12 @@ use Rattle.moves.proofs.rings.advanced.Goals.{then-p-lt-CAP, then-rings, else-ri
 -- after a pop it goes on
 goes_on : {s : Set} {N : ℕ} {l : List ℕ} {r : Ring} {left : ℕ} → Going s N l r left → 0 < left → due_by r.set.heap N ≡ true → Going s N l (rung_of r) (left - 1)
 goes_on {s} {N} {l} {r} {left} v b d = record {
-  heap_sound = rung-heap r v.heap_sound;
-  timers_long = rung-timers r ∙ v.timers_long;
-  list_long = rung-list r ∙ v.list_long;
-  fewer = omega (arith, rung_reported r, rung-popped r, v.fewer);
-  counted = omega (arith, rung-popped r, v.counted);
-  rest = sym (ring-goes N left r b d) ∙ v.rest;
+  heap_sound = rung_heap r v.heap_sound;
+  timers_long = rung_timers r ∙ v.timers_long;
+  list_long = rung_list r ∙ v.list_long;
+  fewer = omega (arith, rung_reported r, rung_popped r, v.fewer);
+  counted = omega (arith, rung_popped r, v.counted);
+  rest = sym (ring_goes N left r b d) ∙ v.rest;
 }
 
 -- the ring where a turn begins, and where it ends
@@ -56,11 +56,11 @@ turned c =
           elim w.if-rings.branch [
             | then-rings x ↦
                 rw (w.list-is, w.ts-is, w.reported-is, w.rung.ensures, x.list-is, x.reported-is, x.handle_word.ensures, h)
-                (sym (rung-told r (sym w.rings.ensures ∙ x.if-rings.true)))
-            | else-rings x ↦ rw (w.list-is, w.ts-is, w.reported-is, w.rung.ensures, x.list-is, x.reported-is, h) (sym (rung-quiet r (sym w.rings.ensures ∙ x.if-rings.false)))
+                (sym (rung_told r (sym w.rings.ensures ∙ x.if-rings.true)))
+            | else-rings x ↦ rw (w.list-is, w.ts-is, w.reported-is, w.rung.ensures, x.list-is, x.reported-is, h) (sym (rung_quiet r (sym w.rings.ensures ∙ x.if-rings.false)))
           ]
       | else-p-lt-CAP w ↦
-          rw (w.list-is, w.ts-is, w.reported-is, h) (sym (rung-out r (omega (arith, w.if-p-lt-CAP.false, c.loop-left.invariant.timers_long))))
+          rw (w.list-is, w.ts-is, w.reported-is, h) (sym (rung_out r (omega (arith, w.if-p-lt-CAP.false, c.loop-left.invariant.timers_long))))
     ]
 
 pub loop-left-init : goal.loop-left-init
@@ -82,7 +82,7 @@ loop-left-preserved c =
     (goes_on c.loop-left.invariant c.loop-left-test.true (sym c.due.ensures ∙ c.if-not-due.false))
 
 pub returns-after-loop-left : goal.returns-after-loop-left
-returns-after-loop-left c = sym (ring-done _ _ (omega arith)) ∙ c.loop-left.invariant.rest
+returns-after-loop-left c = sym (ring_done _ _ (omega arith)) ∙ c.loop-left.invariant.rest
 
 pub returns-then-not-due : goal.returns-then-not-due
-returns-then-not-due c = sym (ring-ends _ _ _ (sym c.due.ensures ∙ c.if-not-due.true)) ∙ c.loop-left.invariant.rest
+returns-then-not-due c = sym (ring_ends _ _ _ (sym c.due.ensures ∙ c.if-not-due.true)) ∙ c.loop-left.invariant.rest

@@ -5,7 +5,7 @@ use mathlib.Core.Path.{◌≡◌, refl, sym, ap, ◌∙◌}
 use Prim.Native.Nat.{suc, ◌-◌}
 use native.Mathlib.Omega.{arith}
 use Rattle.moves.specs.Rules.{drain_from}
-use Rattle.moves.proofs.DrainLaws.{settled-heap, drain_goes, drain_ends}
+use Rattle.moves.proofs.DrainLaws.{settled_heap, drain_goes, drain_ends}
 use Rattle.moves.proofs.updates.drained.Goals as goal
 
 pub loop-left-init : goal.loop-left-init
@@ -24,7 +24,7 @@ loop-left-preserved c =
           ap (drain_from (l.left - 1)) c.settled-g.ensures ∙ sym (drain_goes (l.left - 1) l.g c.in-At.is)
           ∙ ap (λ k. drain_from k l.g) m
           ∙ l.invariant.rest;
-      sound = rw c.settled-g.ensures (settled-heap l.g _ l.invariant.sound);
+      sound = rw c.settled-g.ensures (settled_heap l.g _ l.invariant.sound);
     }
 
 -- no turn is left

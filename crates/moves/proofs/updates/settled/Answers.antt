@@ -7,14 +7,14 @@ use lib.ListN.{length}
 use Rattle.theory.proofs.Stores.{unmapped}
 use Rattle.heap.specs.Capacity.{cap}
 use Rattle.state.specs.State.{timer_at}
-use Rattle.moves.proofs.DrainLaws.{dropped_sound, settled_by_lem, settled_live, settled-idle, settled-out}
+use Rattle.moves.proofs.DrainLaws.{dropped_sound, settled_by_lem, settled_live, settled_idle, settled_out}
 use Rattle.moves.proofs.updates.settled.Goals as goal
 
 pub returns-then-p-ge-CAP : goal.returns-then-p-ge-CAP
 returns-then-p-ge-CAP c =
     let s = c.args.s in
     let n : length s.timers ≡ cap = search (rules, unmapped) in
-    sym (settled-out s c.args.place.0 (omega arith))
+    sym (settled_out s c.args.place.0 (omega arith))
 
 pub push_sound-o-requires : goal.push_sound-o-requires
 push_sound-o-requires c =
@@ -34,4 +34,4 @@ returns-in-Cancelled c =
 pub returns-in-Free : goal.returns-in-Free
 returns-in-Free c =
     let a = c.args in
-    rw c.after-f.ensures (sym (settled-idle a.s a.place.0 (timer_at a.s a.place.0).life refl c.in-Free.in-Free-own.keys3))
+    rw c.after-f.ensures (sym (settled_idle a.s a.place.0 (timer_at a.s a.place.0).life refl c.in-Free.in-Free-own.keys3))

@@ -6,7 +6,7 @@ use native.Mathlib.Omega.{arith}
 use lib.ListN.{length, length-append}
 use Rattle.records.specs.Lines.{decimal}
 use Rattle.records.proofs.Decimal.{decimal_one, decimal_more, digits_of_64}
-use Rattle.records.proofs.Putting.{puts_then, puts-as}
+use Rattle.records.proofs.Putting.{puts_then, puts_as}
 use Rattle.records.proofs.text.+put_digits.Goals as goal
 
 -- how long a number of more digits is
@@ -18,7 +18,7 @@ put-requires t c = omega (arith, ap length (decimal_one c.args.n c.if-n-lt10.tru
 
 pub returns-then-n-lt10 : goal.returns-then-n-lt10
 returns-then-n-lt10 t c =
-    puts-as (sym (decimal_one c.args.n c.if-n-lt10.true))
+    puts_as (sym (decimal_one c.args.n c.if-n-lt10.true))
     (omega (arith, ap length (decimal_one c.args.n c.if-n-lt10.true))) c.put.ensures
 
 pub put_digits-next-requires : goal.put_digits-next-requires
@@ -29,5 +29,5 @@ put-requires-2 t c = omega (arith, longer c.args.n c.if-n-lt10.false, c.put_digi
 
 pub returns : goal.returns
 returns t c =
-    puts-as (sym (decimal_more c.args.n c.if-n-lt10.false)) (digits_of_64 c.args.n (omega arith))
+    puts_as (sym (decimal_more c.args.n c.if-n-lt10.false)) (digits_of_64 c.args.n (omega arith))
     (puts_then c.put_digits-next.ensures c.put-2.ensures)

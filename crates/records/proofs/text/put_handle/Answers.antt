@@ -9,7 +9,7 @@ use Rattle.state.specs.declared.Handle.{Handle}
 use Rattle.state.specs.Handles.{named_by}
 use Rattle.records.specs.Lines.{spaced, name_text}
 use Rattle.records.proofs.Handles.{handle_digits, handle_short}
-use Rattle.records.proofs.Putting.{puts_then, puts-as}
+use Rattle.records.proofs.Putting.{puts_then, puts_as}
 use Rattle.records.proofs.text.put_handle.Goals as goal
 
 pub put_digits-b-requires : goal.put_digits-b-requires
@@ -42,6 +42,6 @@ returns-in-Handle c =
     let h = c.in-Handle.handle in
     let w = c.args.word in
     let e : some h ≡ named_by w = rw c.in-Handle.is at c.handle_of.ensures in
-    puts-as (ap (λ (o : Option Handle). spaced (name_text o)) e)
+    puts_as (ap (λ (o : Option Handle). spaced (name_text o)) e)
     (subst (λ (o : Option Handle). length (spaced (name_text o)) ≤ 22) e (handle_short w h (sym e) c.ranges.word.fits))
     (puts_then c.put-a.ensures (puts_then c.put_digits-b.ensures (puts_then c.put-c.ensures c.put_digits.ensures)))

@@ -11,7 +11,7 @@ use Rattle.refusals.specs.Answer.{Nothing}
 use Rattle.refusals.proofs.Refusing.{number_of_lem}
 use Rattle.records.specs.Lines.{text, decimal, spaced, line_of}
 use Rattle.records.proofs.Decimal.{digits_of_64}
-use Rattle.records.proofs.Putting.{puts_then, puts-same}
+use Rattle.records.proofs.Putting.{puts_then, puts_same}
 use Rattle.records.proofs.text.put_line.Goals as goal
 
 pub put_digits-a-requires : goal.put_digits-a-requires
@@ -24,7 +24,7 @@ pub returns-in-Unread : goal.returns-in-Unread
 unfolding line_of
 returns-in-Unread c =
     rw c.in-Unread.is
-    (puts-same (puts_then c.put-a.ensures (puts_then c.put_number-b.ensures c.put.ensures))
+    (puts_same (puts_then c.put-a.ensures (puts_then c.put_number-b.ensures c.put.ensures))
     (ap (λ (n : ℕ). text "?" ++ (spaced (decimal n) ++ text "\n"))
     (c.number.ensures ∙ number_of_lem Nothing c.in-Unread.why)) (omega arith))
 
@@ -32,4 +32,4 @@ pub returns-in-Made : goal.returns-in-Made
 unfolding line_of
 returns-in-Made c =
     rw c.in-Made.is
-    (puts-same (puts_then c.put_digits-a.ensures (puts_then c.put_answer-b.ensures c.put-in-Made.ensures)) refl (omega arith))
+    (puts_same (puts_then c.put_digits-a.ensures (puts_then c.put_answer-b.ensures c.put-in-Made.ensures)) refl (omega arith))

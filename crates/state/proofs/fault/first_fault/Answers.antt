@@ -8,11 +8,11 @@ use Rattle.refusals.specs.declared.fault.Fault.TheVariants.{Place}
 use Rattle.refusals.specs.Faults.{fault_by, said_verdict}
 use Rattle.state.specs.Faults.{scanned}
 use Rattle.state.specs.declared.fault.Scan.{Scan}
-use Rattle.state.proofs.FaultLaws.{heap-first, heap_sound, list_next, place_last}
+use Rattle.state.proofs.FaultLaws.{heap_first, heap_sound, list_next, place_last}
 use Rattle.state.proofs.fault.first_fault.Goals as goal
 
 pub returns-in_default : goal.returns-in_default
-returns-in_default c = heap-first c.args.s c.first_fault-f.ensures (ap said_verdict c.in_default.is)
+returns-in_default c = heap_first c.args.s c.first_fault-f.ensures (ap said_verdict c.in_default.is)
 
 pub returns-in-At : goal.returns-in-At
 returns-in-At c =

@@ -5,11 +5,11 @@
 use mathlib.Core.Path.{sym, ◌∙◌}
 use native.Mathlib.Omega.{arith}
 use borrow.Author.Tests.{not-true, not-false}
-use Rattle.state.proofs.ListLaws.{list-starts, list_short, list_past, list_again, list_still, list_goes, list_ends, list_long}
+use Rattle.state.proofs.ListLaws.{list_starts, list_short, list_past, list_again, list_still, list_goes, list_ends, list_long}
 use Rattle.state.proofs.fault.list_scan.Goals as goal
 
 pub loop-step-init : goal.loop-step-init
-loop-step-init c = list-starts c.args.s c.requires
+loop-step-init c = list_starts c.args.s c.requires
 
 pub returns-in_default : goal.returns-in_default
 returns-in_default c = list_short c.args.s c.loop-step.invariant (omega arith) c.in_default.is
