@@ -39,7 +39,7 @@ unfolding put_at
 loop-at-init c = record { range = c.requires.slots_in; long = search (rules, unmapped); room = c.requires.slots_in.len_in; as_long = refl; here = c.requires.from_lt_len; left = search rules; rest = simp sub-zero }
 
 pub bounds-g-t : goal.bounds-g-t
-bounds-g-t c = parent_in c.loop-at.invariant c.loop-at-test.true
+bounds-g-t c = omega (arith, parent_in c.loop-at.invariant c.loop-at-test.true, own_in c.loop-at.invariant)
 
 -- where the loop goes on, the parent gives way into the hole
 pub loop-at-preserved : goal.loop-at-preserved
