@@ -88,6 +88,9 @@ def table():
     for name, new in rows.items():
         if "-" in name and new in taken and found[name] == "lemma":
             rows[name] = new + "_lem"
+    for name in [n for n in rows if "◌" in n]:
+        for part in re.findall(r"[^◌]+", name):
+            rows[part] = snake(part)
     return {old: new for old, new in rows.items() if old != new}
 
 
