@@ -236,7 +236,7 @@ fn shown(s: &Set, reading: u64, out: &mut Vec<u8>) -> Result<(), AllocError> {
     text::mark(b'|', out)?;
     waiting(s, out)?;
     text::mark(b'|', out)?;
-    places(s, reading, out)?;
+    places(*s, reading, out)?;
     text::mark(b'|', out)?;
     heaps::entries(&s.heap, true, out)?;
     text::end(out)
@@ -291,8 +291,9 @@ fn next(t: Timer) -> usize {
     }
 }
 
-// The places that are not as in a fresh set, each with how long its timer has to go at a reading.
-fn places(s: &Set, reading: u64, out: &mut Vec<u8>) -> Result<(), AllocError> {
+// The places that are not as in a fresh set, each with how long its timer has to go at a reading. It takes the set by value, since
+// from behind a reference each query would copy it once more.
+fn places(s: Set, reading: u64, out: &mut Vec<u8>) -> Result<(), AllocError> {
     for p in 0..heap::CAP {
         let t = s.timers[p];
         if used(t) {
@@ -301,7 +302,7 @@ fn places(s: &Set, reading: u64, out: &mut Vec<u8>) -> Result<(), AllocError> {
                 uses: t.uses,
             };
             place(p as u64, t, out)?;
-            left(timers::left::time_left(*s, handle, reading), out)?;
+            left(timers::left::time_left(s, handle, reading), out)?;
         }
     }
     Ok(())
