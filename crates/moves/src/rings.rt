@@ -17,6 +17,7 @@ pub struct Ran {
 }
 
 // Pops while the head is due. The reports fill the list from its start.
+#[inline(never)]
 pub fn advanced(s: Set, reading: u64, list: &mut [u64]) -> Ran
     requires sound { Sound s.heap }
     requires cap_in_bounds { cap ≤ length list.old }

@@ -9,6 +9,7 @@ use heap::{Heap, Place};
 use state::{First, Held, Life, Set, Timer, Waiting};
 
 // Every update is made.
+#[inline(never)]
 pub fn drained(s: Set) -> Set
     requires { Sound s.heap }
     ensures { Settles s result }

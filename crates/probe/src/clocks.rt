@@ -1,22 +1,22 @@
 // The calls on a clock alone, and the lines that tell of them.
 use crate::record::Record;
 use crate::text;
+use crate::text::Output;
 use clock::{Change, Changed, Clock};
 use refusals::time::Time;
-use std::alloc::AllocError;
 
 // Makes the call of a record on a clock and tells of it.
-pub fn told(c: &mut Clock, r: Record, out: &mut Vec<u8>) -> Result<(), AllocError> {
+pub fn told(c: &mut Clock, r: Record, out: &mut Output) {
     if 28 < r.op {
         return text::unknown(out);
     }
-    text::number(r.op as u64, out)?;
-    made(c, r, out)?;
-    shown(*c, out)
+    text::number(r.op as u64, out);
+    made(c, r, out);
+    shown(*c, out);
 }
 
 // Makes the call of a record, 24 to 28, and puts what it answers.
-fn made(c: &mut Clock, r: Record, out: &mut Vec<u8>) -> Result<(), AllocError> {
+fn made(c: &mut Clock, r: Record, out: &mut Output) {
     match r.op {
         24 => {
             *c = clock::fresh(r.a);
@@ -30,7 +30,7 @@ fn made(c: &mut Clock, r: Record, out: &mut Vec<u8>) -> Result<(), AllocError> {
 }
 
 // Takes over the clock that a change left, and puts what the change answered.
-fn changed(c: &mut Clock, after: Changed, out: &mut Vec<u8>) -> Result<(), AllocError> {
+fn changed(c: &mut Clock, after: Changed, out: &mut Output) {
     *c = after.clock;
     match after.answer {
         Change::Done => text::accepted(out),
@@ -39,10 +39,10 @@ fn changed(c: &mut Clock, after: Changed, out: &mut Vec<u8>) -> Result<(), Alloc
 }
 
 // What a reading answered.
-fn read(t: Time, out: &mut Vec<u8>) -> Result<(), AllocError> {
+fn read(t: Time, out: &mut Output) {
     match t {
         Time::At(time) => {
-            text::accepted(out)?;
+            text::accepted(out);
             text::field(time, out)
         }
         Time::Refused(why) => text::refused(why, out),
@@ -50,17 +50,17 @@ fn read(t: Time, out: &mut Vec<u8>) -> Result<(), AllocError> {
 }
 
 // Shows a clock, and ends the line.
-fn shown(c: Clock, out: &mut Vec<u8>) -> Result<(), AllocError> {
+fn shown(c: Clock, out: &mut Output) {
     match c {
         Clock::Running { base, start } => {
-            text::bytes(b" | r", out)?;
-            text::field(base, out)?;
-            text::field(start, out)?;
+            text::bytes(b" | r", out);
+            text::field(base, out);
+            text::field(start, out);
         }
         Clock::Paused { base } => {
-            text::bytes(b" | p", out)?;
-            text::field(base, out)?;
+            text::bytes(b" | p", out);
+            text::field(base, out);
         }
     }
-    text::end(out)
+    text::end(out);
 }

@@ -16,10 +16,9 @@ use clock::Clock;
 use heap::Heap;
 use record::Record;
 use state::Set;
-use std::alloc::{AllocError, Global};
 use std::io;
-use std::io::{Read, Write};
-use text::ROOM;
+use std::io::Read;
+use text::Output;
 
 // How many bytes are read at a time, in whole records.
 const PIECE: usize = 65_536;
@@ -42,23 +41,23 @@ fn fresh() -> World {
 }
 
 // A record for the set of timers.
-fn on_set(w: &mut World, r: Record, out: &mut Vec<u8>) -> Result<(), AllocError> {
-    sets::told(&mut w.set, r, out)
+fn on_set(w: &mut World, r: Record, out: &mut Output) {
+    sets::told(&mut w.set, r, out);
 }
 
 // A record for the heap alone.
-fn on_heap(w: &mut World, r: Record, out: &mut Vec<u8>) -> Result<(), AllocError> {
-    heaps::told(&mut w.heap, r, out)
+fn on_heap(w: &mut World, r: Record, out: &mut Output) {
+    heaps::told(&mut w.heap, r, out);
 }
 
 // A record for the clock alone.
-fn on_clock(w: &mut World, r: Record, out: &mut Vec<u8>) -> Result<(), AllocError> {
-    clocks::told(&mut w.clock, r, out)
+fn on_clock(w: &mut World, r: Record, out: &mut Output) {
+    clocks::told(&mut w.clock, r, out);
 }
 
 // Makes the call of a record and tells of it: 0 to 15 are for the set, 16 to 23 for the heap, the rest for the clock, but 31 begins
 // anew.
-fn step(w: &mut World, r: Record, out: &mut Vec<u8>) -> Result<(), AllocError> {
+fn step(w: &mut World, r: Record, out: &mut Output) {
     match r.op {
         0..=15 => on_set(w, r, out),
         16..=23 => on_heap(w, r, out),
@@ -70,22 +69,13 @@ fn step(w: &mut World, r: Record, out: &mut Vec<u8>) -> Result<(), AllocError> {
     }
 }
 
-// Makes the calls of all the whole records in a piece of the input, and writes out their lines where enough of them are gathered.
-fn steps<W: Write>(
-    w: &mut World,
-    piece: &[u8],
-    out: &mut Vec<u8>,
-    output: &mut W,
-) -> io::Result<()> {
+// Makes the calls of all the whole records in a piece of the input.
+fn steps(w: &mut World, piece: &[u8], out: &mut Output) {
     let mut rest = piece;
     while record::SIZE <= rest.len() {
-        step(w, record::first(rest), out)?;
-        if ROOM <= out.len() {
-            text::flush(out, output)?;
-        }
+        step(w, record::first(rest), out);
         rest = &rest[record::SIZE..];
     }
-    Ok(())
 }
 
 // Reads until the piece is full, the input ends or a read fails, and answers how many bytes came and whether the reads went well.
@@ -105,37 +95,30 @@ fn read_full<R: Read>(input: &mut R, piece: &mut [u8]) -> (usize, io::Result<()>
 
 // Reads a piece of the input and makes its calls, and answers whether there may be more to read. A piece that is not full is the
 // last, and what it has behind its last whole record is left out.
-fn next_piece<R: Read, W: Write>(
-    w: &mut World,
-    input: &mut R,
-    out: &mut Vec<u8>,
-    output: &mut W,
-) -> io::Result<bool> {
+fn next_piece<R: Read>(w: &mut World, input: &mut R, out: &mut Output) -> io::Result<bool> {
     let mut piece = [0u8; PIECE];
     let (came, read) = read_full(input, &mut piece);
-    steps(w, &piece[..came], out, output)?;
-    if let Err(e) = read {
-        text::flush(out, output)?;
-        return Err(e);
-    }
+    steps(w, &piece[..came], out);
+    read?;
     Ok(came == PIECE)
 }
 
-// Reads to the end of the input, and writes out all lines. A proved loop has to end and nothing says that the input does, so the
-// turns are counted, up to a number that no run uses up.
-fn replay<R: Read, W: Write>(alloc: Global, input: &mut R, output: &mut W) -> io::Result<()> {
+// Reads to the end of the input. A proved loop has to end and nothing says that the input does, so the turns are counted, up to a
+// number that no run uses up.
+fn replay<R: Read>(input: &mut R, out: &mut Output) -> io::Result<()> {
     let mut w = fresh();
-    let mut out = Vec::with_capacity(alloc, ROOM)?;
     for _ in 0..u64::MAX {
-        if !next_piece(&mut w, input, &mut out, output)? {
+        if !next_piece(&mut w, input, out)? {
             break;
         }
     }
-    text::flush(&mut out, output)
+    Ok(())
 }
 
 fn main(rt: HostRuntime) -> io::Result<()> {
     let mut input = rt.stdin();
-    let mut output = rt.stdout();
-    replay(rt.alloc(), &mut input, &mut output)
+    let mut out = text::opened(rt.stdout());
+    let replayed = replay(&mut input, &mut out);
+    text::flush(out)?;
+    replayed
 }

@@ -1,12 +1,12 @@
 // The calls on a set of timers, and the lines that tell of them.
 use crate::record::Record;
+use crate::text::Output;
 use crate::{heaps, text};
 use heap::Place;
 use interval::Policy;
 use refusals::Refusal;
 use refusals::time::Left;
 use state::{First, Handle, Held, Life, Named, Set, Timer, Waiting};
-use std::alloc::AllocError;
 use timers::left::Least;
 use timers::{After, Call, Reply};
 use word::Polled;
@@ -27,7 +27,7 @@ enum Wish {
 }
 
 // Makes the call of a record on a set and tells of it.
-pub fn told(s: &mut Set, r: Record, out: &mut Vec<u8>) -> Result<(), AllocError> {
+pub fn told(s: &mut Set, r: Record, out: &mut Output) {
     match wish_of(r) {
         Wish::Call(call) => performed(s, r, call, out),
         Wish::Word { handle, word } => reworded(s, r, handle, word, out),
@@ -36,28 +36,22 @@ pub fn told(s: &mut Set, r: Record, out: &mut Vec<u8>) -> Result<(), AllocError>
 }
 
 // Makes a call, with a list of the length that an advance asks for, and tells of it.
-fn performed(s: &mut Set, r: Record, call: Call, out: &mut Vec<u8>) -> Result<(), AllocError> {
+fn performed(s: &mut Set, r: Record, call: Call, out: &mut Output) {
     let mut list = [0u64; heap::CAP];
     let a = timers::perform(*s, call, &mut list);
     *s = a.set;
-    text::number(r.op as u64, out)?;
-    answer(a.reply, &list, out)?;
-    shown(s, r.c, out)
+    text::number(r.op as u64, out);
+    answer(a.reply, &list, out);
+    shown(s, r.c, out);
 }
 
 // Gives a live timer another state word, and tells of it.
-fn reworded(
-    s: &mut Set,
-    r: Record,
-    handle: Handle,
-    word: u32,
-    out: &mut Vec<u8>,
-) -> Result<(), AllocError> {
+fn reworded(s: &mut Set, r: Record, handle: Handle, word: u32, out: &mut Output) {
     let a = with_word(*s, handle, word);
     *s = a.set;
-    text::number(r.op as u64, out)?;
-    done(a.reply, out)?;
-    shown(s, r.c, out)
+    text::number(r.op as u64, out);
+    done(a.reply, out);
+    shown(s, r.c, out);
 }
 
 // What a record asks.
@@ -159,33 +153,33 @@ fn with_life(t: Timer, life: Life) -> Timer {
 }
 
 // What a call answered.
-fn answer(reply: Reply, list: &[u64; heap::CAP], out: &mut Vec<u8>) -> Result<(), AllocError> {
+fn answer(reply: Reply, list: &[u64; heap::CAP], out: &mut Output) {
     match reply {
         Reply::Added(handle) => {
-            text::accepted(out)?;
-            text::field(handle.place.0 as u64, out)?;
+            text::accepted(out);
+            text::field(handle.place.0 as u64, out);
             text::field(handle.uses as u64, out)
         }
         Reply::Ran { reported, popped } => {
-            text::accepted(out)?;
-            text::field(reported as u64, out)?;
-            text::field(popped as u64, out)?;
+            text::accepted(out);
+            text::field(reported as u64, out);
+            text::field(popped as u64, out);
             reports(list, reported, out)
         }
         Reply::WakeAt(wake) => {
-            text::accepted(out)?;
+            text::accepted(out);
             text::field(wake, out)
         }
         Reply::NoWake => {
-            text::accepted(out)?;
+            text::accepted(out);
             text::mark(b'-', out)
         }
         Reply::Found(polled) => {
-            text::accepted(out)?;
+            text::accepted(out);
             found(polled, out)
         }
         Reply::Ticked(due) => {
-            text::accepted(out)?;
+            text::accepted(out);
             text::field(due, out)
         }
         _ => done(reply, out),
@@ -193,7 +187,7 @@ fn answer(reply: Reply, list: &[u64; heap::CAP], out: &mut Vec<u8>) -> Result<()
 }
 
 // What a call that answers no values answered.
-fn done(reply: Reply, out: &mut Vec<u8>) -> Result<(), AllocError> {
+fn done(reply: Reply, out: &mut Output) {
     match reply {
         Reply::Refused(why) => text::refused(why, out),
         _ => text::accepted(out),
@@ -201,7 +195,7 @@ fn done(reply: Reply, out: &mut Vec<u8>) -> Result<(), AllocError> {
 }
 
 // What a poll found.
-fn found(polled: Polled, out: &mut Vec<u8>) -> Result<(), AllocError> {
+fn found(polled: Polled, out: &mut Output) {
     match polled {
         Polled::Pending => text::field(0, out),
         Polled::Fired => text::field(1, out),
@@ -210,40 +204,39 @@ fn found(polled: Polled, out: &mut Vec<u8>) -> Result<(), AllocError> {
 }
 
 // The handles that were reported, each as place and use number.
-fn reports(list: &[u64; heap::CAP], reported: usize, out: &mut Vec<u8>) -> Result<(), AllocError> {
+fn reports(list: &[u64; heap::CAP], reported: usize, out: &mut Output) {
     for word in list.iter().take(reported) {
-        name(*word, out)?;
+        name(*word, out);
     }
-    Ok(())
 }
 
 // Whom a word names, as place and use number; a question mark for nobody.
-fn name(word: u64, out: &mut Vec<u8>) -> Result<(), AllocError> {
+fn name(word: u64, out: &mut Output) {
     match state::handle_of(word) {
         Named::Nobody => text::mark(b'?', out),
         Named::Handle(handle) => {
-            text::field(handle.place.0 as u64, out)?;
+            text::field(handle.place.0 as u64, out);
             text::part(handle.uses as u64, out)
         }
     }
 }
 
 // Shows a set, with how long is left at a reading, and ends the line.
-fn shown(s: &Set, reading: u64, out: &mut Vec<u8>) -> Result<(), AllocError> {
-    text::mark(b'|', out)?;
-    wake(s, out)?;
-    least(timers::left::least_left(*s, reading), out)?;
-    text::mark(b'|', out)?;
-    waiting(s, out)?;
-    text::mark(b'|', out)?;
-    places(*s, reading, out)?;
-    text::mark(b'|', out)?;
-    heaps::entries(&s.heap, true, out)?;
-    text::end(out)
+fn shown(s: &Set, reading: u64, out: &mut Output) {
+    text::mark(b'|', out);
+    wake(s, out);
+    least(timers::left::least_left(*s, reading), out);
+    text::mark(b'|', out);
+    waiting(s, out);
+    text::mark(b'|', out);
+    places(*s, reading, out);
+    text::mark(b'|', out);
+    heaps::entries(&s.heap, true, out);
+    text::end(out);
 }
 
 // The next wake.
-fn wake(s: &Set, out: &mut Vec<u8>) -> Result<(), AllocError> {
+fn wake(s: &Set, out: &mut Output) {
     match timers::next_wake(*s).reply {
         Reply::WakeAt(wake) => text::field(wake, out),
         Reply::NoWake => text::mark(b'-', out),
@@ -252,8 +245,8 @@ fn wake(s: &Set, out: &mut Vec<u8>) -> Result<(), AllocError> {
 }
 
 // The least that is left, or none.
-fn least(l: Least, out: &mut Vec<u8>) -> Result<(), AllocError> {
-    text::byte(b' ', out)?;
+fn least(l: Least, out: &mut Output) {
+    text::byte(b' ', out);
     match l {
         Least::Nothing => text::byte(b'-', out),
         Least::Nanos(nanos) => text::signed(nanos, out),
@@ -262,16 +255,15 @@ fn least(l: Least, out: &mut Vec<u8>) -> Result<(), AllocError> {
 }
 
 // The waiting list from its head, no longer than there are places.
-fn waiting(s: &Set, out: &mut Vec<u8>) -> Result<(), AllocError> {
+fn waiting(s: &Set, out: &mut Output) {
     let mut p = head(s.first);
     for _ in 0..heap::CAP {
         if heap::CAP <= p {
             break;
         }
-        text::field(p as u64, out)?;
+        text::field(p as u64, out);
         p = next(s.timers[p]);
     }
-    Ok(())
 }
 
 // The place at the head of the list, or the number of places where there is none.
@@ -293,7 +285,7 @@ fn next(t: Timer) -> usize {
 
 // The places that are not as in a fresh set, each with how long its timer has to go at a reading. It takes the set by value, since
 // from behind a reference each query would copy it once more.
-fn places(s: Set, reading: u64, out: &mut Vec<u8>) -> Result<(), AllocError> {
+fn places(s: Set, reading: u64, out: &mut Output) {
     for p in 0..heap::CAP {
         let t = s.timers[p];
         if used(t) {
@@ -301,11 +293,10 @@ fn places(s: Set, reading: u64, out: &mut Vec<u8>) -> Result<(), AllocError> {
                 place: Place(p as u16),
                 uses: t.uses,
             };
-            place(p as u64, t, out)?;
-            left(timers::left::time_left(s, handle, reading), out)?;
+            place(p as u64, t, out);
+            left(timers::left::time_left(s, handle, reading), out);
         }
     }
-    Ok(())
 }
 
 // Whether a place is not as in a fresh set.
@@ -317,16 +308,16 @@ fn used(t: Timer) -> bool {
 }
 
 // A place: its number, its use number, whose it is, the state word, the deadline and the slot.
-fn place(p: u64, t: Timer, out: &mut Vec<u8>) -> Result<(), AllocError> {
-    text::field(p, out)?;
-    text::part(t.uses as u64, out)?;
-    life(t.life, out)?;
-    held(t.held, out)
+fn place(p: u64, t: Timer, out: &mut Output) {
+    text::field(p, out);
+    text::part(t.uses as u64, out);
+    life(t.life, out);
+    held(t.held, out);
 }
 
 // How long a timer has to go.
-fn left(l: Left, out: &mut Vec<u8>) -> Result<(), AllocError> {
-    text::byte(b':', out)?;
+fn left(l: Left, out: &mut Output) {
+    text::byte(b':', out);
     match l {
         Left::Nanos(nanos) => text::signed(nanos, out),
         Left::Refused(why) => text::barred(why, out),
@@ -334,17 +325,17 @@ fn left(l: Left, out: &mut Vec<u8>) -> Result<(), AllocError> {
 }
 
 // Whose a place is, with the state word and the deadline.
-fn life(l: Life, out: &mut Vec<u8>) -> Result<(), AllocError> {
+fn life(l: Life, out: &mut Output) {
     match l {
         Life::Free => text::bytes(b":F:-:-", out),
         Life::Live { word, due } => {
-            text::bytes(b":L", out)?;
-            text::part(word as u64, out)?;
+            text::bytes(b":L", out);
+            text::part(word as u64, out);
             text::part(due, out)
         }
         Life::Cancelled { word } => {
-            text::bytes(b":C", out)?;
-            text::part(word as u64, out)?;
+            text::bytes(b":C", out);
+            text::part(word as u64, out);
             text::bytes(b":-", out)
         }
         Life::Retired => text::bytes(b":R:-:-", out),
@@ -352,7 +343,7 @@ fn life(l: Life, out: &mut Vec<u8>) -> Result<(), AllocError> {
 }
 
 // The slot of a timer's entry.
-fn held(h: Held, out: &mut Vec<u8>) -> Result<(), AllocError> {
+fn held(h: Held, out: &mut Output) {
     match h {
         Held::Nothing => text::bytes(b":-", out),
         Held::At(slot) => text::part(slot.0 as u64, out),
