@@ -49,7 +49,6 @@ struct FoundSet {
 }
 
 // Reads an image: bytes that are none are refused with 13, and then the image of a set that is not sound with 1.
-#[inline(never)]
 pub fn read(bytes: &[u8]) -> Reading
     ensures { Reads bytes.now result }
 {
@@ -71,7 +70,6 @@ pub fn read(bytes: &[u8]) -> Reading
 }
 
 // Writes every byte of an image: bytes of another length are refused with 13, and then a set that is not sound with 1.
-#[inline(never)]
 pub fn write(s: Set, out: &mut [u8]) -> Reply
     ensures { Writes s out.old out.new result }
 {

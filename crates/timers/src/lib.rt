@@ -139,7 +139,6 @@ fn met(s: Set, handle: Handle) -> Door
 }
 
 // Adds a timer at the lowest free place.
-#[inline(never)]
 pub fn add(s: Set, due: u64) -> After
     ensures { Adds s due result }
 {
@@ -164,7 +163,6 @@ pub fn add(s: Set, due: u64) -> After
 }
 
 // Sets a live timer to another deadline, fired or not.
-#[inline(never)]
 pub fn reset(s: Set, handle: Handle, due: u64) -> After
     ensures { Resets s handle due result }
 {
@@ -178,7 +176,6 @@ pub fn reset(s: Set, handle: Handle, due: u64) -> After
 }
 
 // Cancels a live timer: its handle is dead from now on.
-#[inline(never)]
 pub fn cancel(s: Set, handle: Handle) -> After
     ensures { Cancels s handle result }
 {
@@ -229,7 +226,6 @@ pub fn advance(s: Set, reading: u64, list: &mut [u64]) -> After
 }
 
 // A drain, then an advance: reports the timers that are owed and due.
-#[inline(never)]
 pub fn turn(s: Set, reading: u64, list: &mut [u64]) -> After
     ensures { Turns s reading list.old result list.new }
 {
@@ -251,7 +247,6 @@ pub fn turn(s: Set, reading: u64, list: &mut [u64]) -> After
 }
 
 // When the head of the heap is due, if there is one.
-#[inline(never)]
 pub fn next_wake(s: Set) -> After
     ensures { Wakes s result }
 {
