@@ -1,7 +1,7 @@
 #!/usr/bin/env python3
 """Brings this repository's own definitions and lemmas to today's spelling: words in snake case.
 
-usage: tools/respell.py        at the top of the repository, once, on what /opt/rattle/port/port.py has made
+usage: tools/respell.py        at the top of the repository, once, on what the port.py of the kit has made
 
 port.py turns the names that the kit's tables know. This turns the rest: a definition in lower camel case ('drainFrom') and a lemma,
 a field or a constructor with dashes ('time-left-no-second') become snake case ('drain_from', 'time_left_no_second'). The names are
