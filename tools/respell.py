@@ -8,8 +8,9 @@ a field or a constructor with dashes ('time-left-no-second') become snake case (
 read off the declarations in specs/ and proofs/, so the table is made anew by each run; --table prints it and changes nothing.
 
 What keeps its spelling: functions of src/ and what src/ declares, types, modules, strings, and the names that Rattle makes for a
-proof ('invariant-loop', a label behind a dot). Where a lemma would fall together with a definition it gets '_lem'; five fields of
-facts that would do so get '_range'. In the pages only what stands between backticks turns.
+proof ('invariant-loop', a label behind a dot). Where what it takes for a lemma would fall together with a definition it gets '_lem';
+five fields of facts that would do so get '_range'. A few fields and lemmas of sections that it takes for neither were given their
+'_lem' by hand; docs/PORT.md names them. In the pages only what stands between backticks turns.
 """
 
 import glob
