@@ -1,14 +1,13 @@
 -- The rules of the clock: what each call makes of a clock and of the raw counter.
 -- Assumes nothing.
-use Rattle.std.specs.Prelude.{Bool, true, false, cond, ℕ, ◌+◌, ◌-◌, ltb}
+use Rattle.std.specs.Prelude.{Bool, true, false, cond, ℕ, ◌+◌, ◌-◌, ltb, ⊤}
 use Rattle.refusals.specs.declared.Refusal.TheVariants.{CounterBehind, WrongMode}
 use Rattle.refusals.specs.Answer.{Answer, accepted, refused, unsound, refuse, Outcome, Nothing, done, kept}
+use Rattle.refusals.specs.declared.outcome.Outcome as Code
+use Rattle.refusals.specs.Outcomes.{told_by}
 use Rattle.refusals.specs.Times.{timely}
 use Rattle.clock.specs.declared.Clock.{Clock}
 use Rattle.clock.specs.declared.Clock.TheVariants.{Running, Paused}
-use Rattle.clock.specs.declared.Change.{Change}
-use Rattle.clock.specs.declared.Change.TheVariants.{Done, Refused}
-use Rattle.clock.specs.declared.Changed.{Changed}
 
 -- fresh: base and start are the raw value
 abbrev pub fresh_of : ℕ → Clock
@@ -43,11 +42,6 @@ abbrev pub advance_of : Clock → ℕ → Outcome Clock Nothing
 advance_of (Running base start) d = kept (Running base start) (refuse WrongMode)
 advance_of (Paused base) d = paused_at (Paused base) (timely (base + d))
 
--- what a change says
-abbrev pub said : Change → Answer Nothing
-said Done = accepted tt
-said (Refused r) = refuse r
-
 -- the clock handed back, and what is said
-abbrev pub told : Changed → Outcome Clock Nothing
-told r = record { state = r.clock; answer = said r.answer }
+abbrev pub told : Code.Outcome Clock ⊤ → Outcome Clock Nothing
+told = told_by (λ (u : ⊤). u)

@@ -1,11 +1,11 @@
 // The clock: time that can be paused, over a raw counter that the caller reads and hands in. A clock is a value: what changes
-// one answers the new clock, and a refusal answers the clock that was handed in.
+// one hands the new clock back, and a refusal the clock that was handed in.
 #![tactic(auto)]
 
-ghost use Rattle.clock.specs.Promises.{Starts, Reads, Pauses, Resumes, Advances, IsPaused, Refuses};
+ghost use Rattle.clock.specs.Promises.{Starts, Reads, Pauses, Resumes, Advances, IsPaused, PausesAt};
 
 use refusals::Refusal;
-use refusals::time::Time;
+use refusals::outcome::Outcome;
 
 #[derive(Clone, Copy)]
 pub enum Clock {
@@ -13,20 +13,6 @@ pub enum Clock {
     Running { base: u64, start: u64 },
     // the time is `base`, whatever the raw counter says
     Paused { base: u64 },
-}
-
-// What a change of a clock answers.
-#[derive(Clone, Copy)]
-pub enum Change {
-    Done,
-    Refused(Refusal),
-}
-
-// A clock after a change, or as it was where the change is refused.
-#[derive(Clone, Copy)]
-pub struct Changed {
-    pub clock: Clock,
-    pub answer: Change,
 }
 
 // A running clock whose time is the raw counter's.
@@ -40,62 +26,45 @@ pub fn fresh(raw: u64) -> Clock
 }
 
 // The time that a clock shows.
-pub fn reading(clock: Clock, raw: u64) -> Time
+pub fn reading(clock: Clock, raw: u64) -> Result<u64, Refusal>
     ensures { Reads clock raw result }
 {
     match clock {
         Clock::Running { base, start } => {
-            if raw < start {
-                return Time::Refused(Refusal::CounterBehind);
-            }
-            refusals::time::sum(base, raw - start)
+            let elapsed = raw.checked_sub(start).ok_or(Refusal::CounterBehind)?;
+            refusals::time::sum(base, elapsed)
         }
-        Clock::Paused { base } => Time::At(base),
+        Clock::Paused { base } => Ok(base),
     }
 }
 
 // The clock stopped at the time that it shows.
-pub fn pause(clock: Clock, raw: u64) -> Changed
+pub fn pause(clock: Clock, raw: u64) -> Outcome<Clock, ()>
     ensures { Pauses clock raw result }
 {
     if is_paused(clock) {
-        return refused(clock, Refusal::WrongMode);
+        return Outcome::kept(clock, Refusal::WrongMode);
     }
-    match reading(clock, raw) {
-        Time::At(time) => Changed {
-            clock: Clock::Paused { base: time },
-            answer: Change::Done,
-        },
-        Time::Refused(why) => refused(clock, why),
-    }
+    paused_at(clock, reading(clock, raw))
 }
 
 // The clock running again from the time at which it stands.
-pub fn resume(clock: Clock, raw: u64) -> Changed
+pub fn resume(clock: Clock, raw: u64) -> Outcome<Clock, ()>
     ensures { Resumes clock raw result }
 {
     match clock {
-        Clock::Running { base: _, start: _ } => refused(clock, Refusal::WrongMode),
-        Clock::Paused { base } => Changed {
-            clock: Clock::Running { base, start: raw },
-            answer: Change::Done,
-        },
+        Clock::Running { .. } => Outcome::kept(clock, Refusal::WrongMode),
+        Clock::Paused { base } => Outcome::given(Clock::Running { base, start: raw }, ()),
     }
 }
 
 // The paused clock set forward by a duration.
-pub fn advance(clock: Clock, duration: u64) -> Changed
+pub fn advance(clock: Clock, duration: u64) -> Outcome<Clock, ()>
     ensures { Advances clock duration result }
 {
     match clock {
-        Clock::Running { base: _, start: _ } => refused(clock, Refusal::WrongMode),
-        Clock::Paused { base } => match refusals::time::sum(base, duration) {
-            Time::At(time) => Changed {
-                clock: Clock::Paused { base: time },
-                answer: Change::Done,
-            },
-            Time::Refused(why) => refused(clock, why),
-        },
+        Clock::Running { .. } => Outcome::kept(clock, Refusal::WrongMode),
+        Clock::Paused { base } => paused_at(clock, refusals::time::sum(base, duration)),
     }
 }
 
@@ -103,18 +72,15 @@ pub fn advance(clock: Clock, duration: u64) -> Changed
 pub fn is_paused(clock: Clock) -> bool
     ensures { IsPaused clock result }
 {
-    match clock {
-        Clock::Running { base: _, start: _ } => false,
-        Clock::Paused { base: _ } => true,
-    }
+    matches!(clock, Clock::Paused { .. })
 }
 
-// A change refused: the clock as it was handed in.
-fn refused(clock: Clock, why: Refusal) -> Changed
-    ensures { Refuses clock why result }
+// The clock stopped at a time, or as it was where there is none.
+fn paused_at(clock: Clock, time: Result<u64, Refusal>) -> Outcome<Clock, ()>
+    ensures { PausesAt clock time result }
 {
-    Changed {
-        clock,
-        answer: Change::Refused(why),
+    match time {
+        Ok(base) => Outcome::given(Clock::Paused { base }, ()),
+        Err(why) => Outcome::kept(clock, why),
     }
 }

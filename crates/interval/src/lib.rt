@@ -6,12 +6,9 @@ ghost use Rattle.std.specs.Prelude.{◌≤◌};
 ghost use Rattle.interval.specs.Promises.{IsLate, Skips, Ticks, Restarts};
 
 use refusals::Refusal;
-use refusals::time::Time;
 
 // How much later than its deadline a tick may come and still be on time: 5 ms.
 const GRACE: u64 = 5_000_000;
-// The last deadline with the grace after it below 2^64: no reading is late for a later one.
-const LAST: u64 = u64::MAX - GRACE;
 
 // What becomes of the ticks that a late one has missed.
 #[derive(Clone, Copy)]
@@ -25,7 +22,7 @@ pub enum Policy {
 }
 
 // The deadline after a tick: `due` is the deadline that the tick answers, `reading` the time at which it is made.
-pub fn next_deadline(policy: Policy, due: u64, period: u64, reading: u64) -> Time
+pub fn next_deadline(policy: Policy, due: u64, period: u64, reading: u64) -> Result<u64, Refusal>
     ensures { Ticks policy due period reading result }
 {
     if is_late(due, reading) {
@@ -40,32 +37,27 @@ pub fn next_deadline(policy: Policy, due: u64, period: u64, reading: u64) -> Tim
 }
 
 // The deadline after an interval is reset, whether its timer has fired or not.
-pub fn restarted(period: u64, reading: u64) -> Time
+pub fn restarted(period: u64, reading: u64) -> Result<u64, Refusal>
     ensures { Restarts period reading result }
 {
     refusals::time::sum(reading, period)
 }
 
-// Whether the reading is past the deadline by more than the grace. The sum is made only where it cannot wrap.
+// Whether the reading is past the deadline by more than the grace. No reading is late where the sum would wrap.
 pub fn is_late(due: u64, reading: u64) -> bool
     ensures { IsLate due reading result }
 {
-    if LAST < due {
-        return false;
-    }
-    due + GRACE < reading
+    due.checked_add(GRACE).is_some_and(|last| last < reading)
 }
 
 // The next deadline on the old beat that is after the reading.
-fn skipped(due: u64, period: u64, reading: u64) -> Time
+fn skipped(due: u64, period: u64, reading: u64) -> Result<u64, Refusal>
     requires { due ≤ reading }
     ensures { Skips due period reading result }
 {
     if period == 0 {
-        return Time::Refused(Refusal::ZeroPeriod);
+        return Err(Refusal::ZeroPeriod);
     }
-    match refusals::time::sum(reading, period) {
-        Time::At(time) => Time::At(time - (reading - due) % period),
-        Time::Refused(why) => Time::Refused(why),
-    }
+    let time = refusals::time::sum(reading, period)?;
+    Ok(time - (reading - due) % period)
 }

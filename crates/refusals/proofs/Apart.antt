@@ -1,7 +1,7 @@
 -- Two refusals with one number, and one fault where it is that of an unsound state, are one refusal; two times, differences or verdicts
 -- that say the same are one; and no function here has a second answer.
 -- Assumes nothing.
-use mathlib.Core.Path.{◌≡◌, refl, sym, ◌∙◌}
+use mathlib.Core.Path.{◌≡◌, refl, sym, ap, ◌∙◌}
 use mathlib.Core.Option.{Option, none, some}
 use mathlib.Core.List.{[], ◌∷◌}
 use Prim.Native.Nat.{ℕ, ◌+◌}
@@ -11,16 +11,13 @@ use Rattle.theory.specs.Promise.{NoSecond, TellsApart}
 use Rattle.theory.proofs.Promise.{by_rule, plain_apart, undone_apart}
 use Rattle.refusals.specs.declared.fault.Fault.{Fault}
 use Rattle.refusals.specs.declared.fault.Fault.TheVariants.{Count, Position, Order, FreeChain, List, Place}
-use Rattle.refusals.specs.declared.fault.Verdict.{Verdict}
-use Rattle.refusals.specs.declared.fault.Verdict.TheVariants.{Sound, Broken}
 use Rattle.refusals.specs.declared.Refusal.{Refusal}
 use Rattle.refusals.specs.declared.Refusal.TheVariants.{Unsound, Closed, DeadHandle, Full, ShortList, TimeOverflow, CounterBehind, WrongMode, ZeroPeriod, NotFired, VacantSlot, BadRecord, BadImage}
-use Rattle.refusals.specs.declared.time.Time.{Time}
-use Rattle.refusals.specs.declared.time.Time.TheVariants.{At, Refused}
-use Rattle.refusals.specs.declared.time.Left.{Left}
-use Rattle.refusals.specs.declared.time.Left.TheVariants as L
+use Rattle.std.specs.Prelude.{Result, Ok, Err, ⊤}
 use Rattle.refusals.specs.Numbers.{number_of, Numbers}
-use Rattle.refusals.specs.Answer.{Answer, accepted, refused, unsound, refuse}
+use Rattle.refusals.specs.Answer.{Answer, accepted, refused, unsound, refuse, Outcome}
+use Rattle.refusals.specs.declared.outcome.Outcome as Code
+use Rattle.refusals.specs.Outcomes.{said_by, told_by, Gives, Keeps}
 use Rattle.refusals.specs.Faults.{kind_of, where_of, said_verdict, Kinds, Stands}
 use Rattle.refusals.specs.Times.{timely, said, Sums, difference_of, said_left, Differs, Sizes}
 
@@ -61,37 +58,50 @@ refuse_apart {A} = undone_apart refuse back (refusal_back back (λ (r : Refusal)
 pub number_no_second : NoSecond Numbers
 number_no_second = by_rule (λ (n : ℕ). n) number_of plain_apart
 
--- what a time says tells any two apart
-pub said_apart : TellsApart said
-said_apart = undone_apart said time_of back
+-- the result that says this, where the values can be read back
+abbrev pub result_of : {A B : Type 0} → (B → A) → Answer B → Result A Refusal
+result_of g (accepted v) = Ok (g v)
+result_of g (refused n) = Err (refusal_of n)
+result_of g (unsound f) = Err (Unsound f)
+
+pub result_back : {A B : Type 0} (f : A → B) (g : B → A) → ((v : A) → g (f v) ≡ v)
+    → (r : Result A Refusal) → result_of g (said_by f r) ≡ r
+result_back f g e (Ok v) = ap Ok (e v)
+result_back f g e (Err r) = refusal_back (result_of g) Err (λ n. refl) (λ x. refl) r
+
+-- what a result says tells any two apart, and so does what an outcome says, where the values can be read back
+pub said_by_apart : {A B : Type 0} (f : A → B) (g : B → A) → ((v : A) → g (f v) ≡ v) → TellsApart (said_by f)
+said_by_apart f g e = undone_apart (said_by f) (result_of g) (result_back f g e)
+
+pub told_by_apart : {S A B : Type 0} (f : A → B) (g : B → A) → ((v : A) → g (f v) ≡ v) → TellsApart (told_by {S = S} f)
+told_by_apart {S} {A} {B} f g e =
+    undone_apart (told_by f) back
+    (λ (r : Code.Outcome S A) i. record { state = r.state; answer = result_back f g e r.answer i })
   where
-    time_of : Answer ℕ → Time
-    time_of (accepted t) = At t
-    time_of (refused n) = Refused (refusal_of n)
-    time_of (unsound f) = Refused (Unsound f)
+    back : Outcome S B → Code.Outcome S A
+    back o = record { state = o.state; answer = result_of g o.answer }
 
-    back : (r : Time) → time_of (said r) ≡ r
-    back (At t) = refl
-    back (Refused r) = refusal_back time_of Refused (λ n. refl) (λ x. refl) r
+-- what a sum of times says tells any two apart, and what a difference says
+pub said_apart : TellsApart said
+said_apart = said_by_apart (λ (t : ℕ). t) (λ (t : ℕ). t) (λ t. refl)
 
-pub sum_no_second : NoSecond (λ (q : ℕ × ℕ) (r : Time). Sums q.0 q.1 r)
+pub left_apart : TellsApart said_left
+left_apart = said_by_apart (λ (z : ℤ). z) (λ (z : ℤ). z) (λ z. refl)
+
+pub sum_no_second : NoSecond (λ (q : ℕ × ℕ) (r : Result ℕ Refusal). Sums q.0 q.1 r)
 sum_no_second = by_rule said (λ (q : ℕ × ℕ). timely (q.0 + q.1)) said_apart
 
--- and what a difference says
-pub left_apart : TellsApart said_left
-left_apart = undone_apart said_left left_of back
-  where
-    left_of : Answer ℤ → Left
-    left_of (accepted z) = L.Nanos z
-    left_of (refused n) = L.Refused (refusal_of n)
-    left_of (unsound f) = L.Refused (Unsound f)
-
-    back : (r : Left) → left_of (said_left r) ≡ r
-    back (L.Nanos z) = refl
-    back (L.Refused r) = refusal_back left_of L.Refused (λ n. refl) (λ x. refl) r
-
-pub difference_no_second : NoSecond (λ (q : ℕ × ℕ) (r : Left). Differs q.0 q.1 r)
+pub difference_no_second : NoSecond (λ (q : ℕ × ℕ) (r : Result ℤ Refusal). Differs q.0 q.1 r)
 difference_no_second = by_rule said_left (λ (q : ℕ × ℕ). difference_of q.0 q.1) left_apart
+
+-- an outcome made has no second answer
+pub given_no_second : {S A : Type 0} → NoSecond (λ (q : S × A) (r : Code.Outcome S A). Gives q.0 q.1 r)
+given_no_second {S} {A} =
+    by_rule (λ (r : Code.Outcome S A). r) (λ (q : S × A). record { state = q.0; answer = Ok q.1 }) plain_apart
+
+pub kept_no_second : {S A : Type 0} → NoSecond (λ (q : S × Refusal) (r : Code.Outcome S A). Keeps q.0 q.1 r)
+kept_no_second {S} {A} =
+    by_rule (λ (r : Code.Outcome S A). r) (λ (q : S × Refusal). record { state = q.0; answer = Err q.1 }) plain_apart
 
 pub size_no_second : NoSecond Sizes
 size_no_second = by_rule (λ (n : ℕ). n) nat_abs plain_apart
@@ -121,10 +131,10 @@ at_no_second = by_rule (λ (n : ℕ). n) where_of plain_apart
 pub verdict_apart : TellsApart said_verdict
 verdict_apart = undone_apart said_verdict verdict_of back
   where
-    verdict_of : Option Fault → Verdict
-    verdict_of none = Sound
-    verdict_of (some f) = Broken f
+    verdict_of : Option Fault → Result ⊤ Fault
+    verdict_of none = Ok tt
+    verdict_of (some f) = Err f
 
-    back : (v : Verdict) → verdict_of (said_verdict v) ≡ v
-    back Sound = refl
-    back (Broken f) = refl
+    back : (v : Result ⊤ Fault) → verdict_of (said_verdict v) ≡ v
+    back (Ok tt) = refl
+    back (Err f) = refl

@@ -1,11 +1,9 @@
 -- The first fault of a state: its kind, and where it is.
 -- Assumes nothing.
-use Rattle.std.specs.Prelude.{◌≡◌, ℕ}
+use Rattle.std.specs.Prelude.{◌≡◌, ℕ, Result, Ok, Err, ⊤}
 use Rattle.std.proofs.Math.Option.{Option, none, some}
 use Rattle.refusals.specs.declared.fault.Fault.{Fault}
 use Rattle.refusals.specs.declared.fault.Fault.TheVariants.{Count, Position, Order, FreeChain, List, Place}
-use Rattle.refusals.specs.declared.fault.Verdict.{Verdict}
-use Rattle.refusals.specs.declared.fault.Verdict.TheVariants.{Sound, Broken}
 
 -- the kinds by number, in the order in which they are tried
 abbrev pub kind_of : Fault → ℕ
@@ -36,9 +34,9 @@ fault_by kind none = none
 fault_by kind (some k) = some (kind k)
 
 -- what a test of the code says
-abbrev pub said_verdict : Verdict → Option Fault
-said_verdict Sound = none
-said_verdict (Broken f) = some f
+abbrev pub said_verdict : Result ⊤ Fault → Option Fault
+said_verdict (Ok u) = none
+said_verdict (Err f) = some f
 
 -- `kind` of a fault is n, and `at` of it
 abbrev pub Kinds : Fault → ℕ → Type 0

@@ -18,13 +18,6 @@ pub enum Fault {
     Place(u64),
 }
 
-// What the test of a state says.
-#[derive(Clone, Copy)]
-pub enum Verdict {
-    Sound,
-    Broken(Fault),
-}
-
 // The number of a fault's kind, for whoever hands faults on: 1 count, 2 position, 3 order, 4 free chain, 5 list, 6 place.
 pub fn kind(f: Fault) -> u8
     ensures { Kinds f result }

@@ -3,6 +3,7 @@
 #![tactic(auto)]
 
 pub mod fault;
+pub mod outcome;
 pub mod time;
 
 ghost use Rattle.refusals.specs.Numbers.{Numbers};
