@@ -14,10 +14,8 @@ pub fn number(bytes: &[u8], at: usize, k: usize) -> u64
     ensures { Reads k bytes.now at result }
 {
     let mut n: u64 = 0;
-    let mut i: usize = 0;
-    while i < k {
-        n = n * 256 + (bytes[at + i] as u64);
-        i += 1;
+    for byte in &bytes[at..at + k] {
+        n = n * 256 + u64::from(*byte);
     }
     n
 }
@@ -28,11 +26,9 @@ pub fn put(out: &mut [u8], at: usize, k: usize, n: u64) -> usize
     ensures { PutsNumber k n out.old at out.new result }
 {
     let mut m = n;
-    let mut i = k;
-    while 0 < i {
-        i -= 1;
+    for i in (0..k).rev() {
         out[at + i] = (m % 256) as u8;
-        m = m / 256;
+        m /= 256;
     }
     at + k
 }
@@ -42,12 +38,5 @@ pub fn zeros(bytes: &[u8], at: usize, k: usize) -> bool
     requires { at + k ≤ length bytes.now }
     ensures { AreZeros k bytes.now at result }
 {
-    let mut i: usize = 0;
-    while i < k {
-        if bytes[at + i] != 0 {
-            return false;
-        }
-        i += 1;
-    }
-    true
+    bytes[at..at + k].iter().all(|byte| *byte == 0)
 }

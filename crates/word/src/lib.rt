@@ -14,7 +14,7 @@ const STEP: u32 = 4;
 const UNMARKED: u32 = 0xffff_fffc;
 
 // What a poll finds.
-#[derive(Clone, Copy)]
+#[derive(Clone, Copy, PartialEq, Eq)]
 pub enum Polled {
     Pending,
     Fired,
@@ -60,17 +60,14 @@ pub fn with_invalid(word: u32) -> u32
 pub fn after_reset(word: u32) -> u32
     ensures { Resets word result }
 {
-    std::num::wrapping_add_u32(word, STEP) & UNMARKED
+    word.wrapping_add(STEP) & UNMARKED
 }
 
 // Whether the whole word is the generation with neither mark. Any number may be asked for: one of 2^30 or more is no word's.
 pub fn matches(word: u32, generation: u32) -> bool
     ensures { Matches word generation result }
 {
-    if word >> 2 != generation {
-        return false;
-    }
-    word & (FIRED | INVALID) == 0
+    word >> 2 == generation && word & (FIRED | INVALID) == 0
 }
 
 // What a poll finds: fired goes before gone.
@@ -78,10 +75,10 @@ pub fn poll(word: u32) -> Polled
     ensures { Polls word result }
 {
     if fired(word) {
-        return Polled::Fired;
+        Polled::Fired
+    } else if invalid(word) {
+        Polled::Gone
+    } else {
+        Polled::Pending
     }
-    if invalid(word) {
-        return Polled::Gone;
-    }
-    Polled::Pending
 }

@@ -4,7 +4,7 @@ use mathlib.Core.Path.{◌≡◌, refl, ap, ◌∙◌, sym}
 use mathlib.Core.List.{List, [], ◌∷◌}
 use Prim.Native.Nat.{ℕ, suc, ◌+◌, ◌-◌, ◌/◌, ◌%◌}
 use native.Mathlib.Omega.{arith}
-use lib.ListN.{length, set, length-set}
+use lib.ListN.{length, set}
 use lib.Seq.{sets}
 use Rattle.digits.specs.Digits.{digits}
 use Rattle.digits.proofs.Digits.{length_digits}
@@ -23,14 +23,9 @@ step l at j m =
 pub loop-i-preserved : goal.loop-i-preserved
 loop-i-preserved c =
     let l = c.loop-i in
-    let a = c.args in
-    let j = l.i - 1 in
-    let e : suc j ≡ l.i = omega (arith, c.loop-i-test.true) in
-    record {
-      within = omega (arith, l.invariant.within);
-      rest = step l.out a.at j l.m ∙ ap (λ (n : ℕ). sets l.out a.at (digits n l.m)) e ∙ l.invariant.rest;
-      long = length-set l.out (a.at + j) (l.m % 256) ∙ l.invariant.long;
-    }
+    let at = c.args.at in
+    let e : suc (l.i - 1) ≡ l.i = omega (arith, c.loop-i-test.true) in
+    step l.out at (l.i - 1) l.m ∙ ap (λ (n : ℕ). sets l.out at (digits n l.m)) e ∙ l.invariant
 
 pub returns : goal.returns
 returns c =
@@ -38,7 +33,7 @@ returns c =
     let a = c.args in
     let e : 0 ≡ l.i = omega (arith, c.loop-i-test.false) in
     record {
-      written = ap (λ (n : ℕ). sets l.out a.at (digits n l.m)) e ∙ l.invariant.rest;
+      written = ap (λ (n : ℕ). sets l.out a.at (digits n l.m)) e ∙ l.invariant;
       next = refl;
       long = length_digits a.k a.n;
     }

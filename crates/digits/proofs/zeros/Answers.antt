@@ -1,35 +1,44 @@
--- Each byte before the one that is looked at is zero.
+-- Each of the bytes is asked.
 -- Assumes nothing.
-use mathlib.Core.Path.{◌≡◌, sym, ◌∙◌}
+use mathlib.Core.Path.{◌≡◌, sym, ap, ◌∙◌}
+use mathlib.Core.Bool.{Bool, ◌&&◌}
 use mathlib.Core.List.{List}
-use Prim.Native.Nat.{ℕ, ◌+◌, ◌≤◌}
+use Prim.Native.Nat.{ℕ, zero, suc, ◌+◌, ◌-◌, ◌≤◌}
+use native.Mathlib.Numerals.{add-one}
 use native.Mathlib.Omega.{arith}
+use borrow.Author.Tests.{tests}
 use lib.Dec.{eqb}
-use lib.ListN.{get_or}
-use Rattle.theory.proofs.Tests.{ref_eq, true_ref, false_ref}
-use Rattle.digits.proofs.Passing.{all_none, all_more, all_not}
-use Rattle.digits.proofs.zeros.Invariants.{Going}
+use lib.ListN.{length, get_or, take, drop}
+use Rattle.std.proofs.Common.{rules}
+use Rattle.std.proofs.lemmas.Iterator.{YieldsList-from_slice}
+use Rattle.std.proofs.lemmas.Iterator.Search.{all_from_yields_List}
+use Rattle.std.proofs.lemmas.List.{get_or-drop, length-drop}
+use Rattle.std.proofs.lemmas.List.Folds.{list_all_more}
+use Rattle.std.specs.List.{list_all}
+use Rattle.digits.specs.Digits.{zeros_at}
+use Rattle.digits.proofs.Passing.{all_none, all_more}
 use Rattle.digits.proofs.zeros.Goals as goal
 
--- one byte more
-more : (l : List ℕ) (at k i : ℕ) → Going l at k i → i + 1 ≤ k → get_or l (at + i) 0 ≡ 0 → Going l at k (i + 1)
-more l at k i v q e = record {
-  within = q;
-  clear = all_more (λ j. eqb (get_or l (at + j) 0) 0) i ∙ rw v.clear (true_ref (ref_eq (get_or l (at + i) 0) 0) e);
-}
+-- whether a byte is zero
+zero_byte : ℕ → Bool
+zero_byte b = eqb b 0
 
-pub loop-i-init : goal.loop-i-init
-loop-i-init c =
-    let a = c.args in
-    record { within = omega arith; clear = all_none (λ j. eqb (get_or a.bytes.now (a.at + j) 0) 0) }
+-- the bytes one by one are the bytes by their places
+asked : (l : List ℕ) (i k : ℕ) → i + k ≤ length l → list_all zero_byte (take k (drop i l)) ≡ zeros_at k l i
+unfolding zero_byte
+asked l i zero h = sym (all_none (λ j. eqb (get_or l (i + j) 0) 0))
+asked l i (suc k) h =
+    ap (λ (n : ℕ). list_all zero_byte (take n (drop i l))) (sym (add-one k))
+    ∙ list_all_more zero_byte (drop i l) k 0 (omega (arith, length-drop i l))
+    ∙ (λ x. asked l i k (omega arith) x && zero_byte (get_or-drop i l k 0 x))
+    ∙ sym (all_more (λ j. eqb (get_or l (i + j) 0) 0) k)
+    ∙ ap (λ (n : ℕ). zeros_at n l i) (add-one k)
 
-pub returns-then-bytes-at-ne0 : goal.returns-then-bytes-at-ne0
-returns-then-bytes-at-ne0 c =
+pub returns : goal.returns
+unfolding zero_byte
+returns c =
     let a = c.args in
-    sym (all_not (λ j. eqb (get_or a.bytes.now (a.at + j) 0) 0) a.k c.loop-i.i c.loop-i-test.true
-    (false_ref (ref_eq (get_or a.bytes.now (a.at + c.loop-i.i) 0) 0) c.if-bytes-at-ne0.true))
-
-pub loop-i-preserved : goal.loop-i-preserved
-loop-i-preserved c =
-    let a = c.args in
-    more a.bytes.now a.at a.k c.loop-i.i c.loop-i.invariant (omega arith) c.if-bytes-at-ne0.false
+    let e : a.at + a.k - a.at ≡ a.k = omega arith in
+    all_from_yields_List zero_byte _ _ c.all.result c.all.ensures.ran (YieldsList-from_slice (take (a.at + a.k - a.at) (drop a.at a.bytes.now)) cc) (λ x b q k. search (rules, tests))
+    ∙ ap (λ (n : ℕ). list_all zero_byte (take n (drop a.at a.bytes.now))) e
+    ∙ asked a.bytes.now a.at a.k c.requires
