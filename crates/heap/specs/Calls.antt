@@ -1,11 +1,15 @@
 -- The rules of the calls: what each makes of any heap, its refusals included, in the terms of the rules.
 -- Assumes nothing.
-use Rattle.std.specs.Prelude.{cond, ℕ, ltb, eqb, replicate}
+use Rattle.std.specs.Prelude as Std
+use Rattle.std.specs.Prelude.{cond, ℕ, ltb, eqb, replicate, Result, ⊤}
 use Rattle.std.proofs.Math.Option.{Option, none, some}
 use Rattle.theory.specs.Logarithm.{log2}
 use Rattle.refusals.specs.declared.fault.Fault.{Fault}
+use Rattle.refusals.specs.declared.Refusal.{Refusal}
 use Rattle.refusals.specs.declared.Refusal.TheVariants.{Unsound, Full, VacantSlot}
 use Rattle.refusals.specs.Answer.{Answer, accepted, refused, unsound, refuse, Outcome, Nothing, kept}
+use Rattle.refusals.specs.declared.outcome.Outcome as Code
+use Rattle.refusals.specs.Outcomes.{said_by}
 use Rattle.heap.specs.Capacity.{cap}
 use Rattle.heap.specs.declared.Slot.{Slot}
 use Rattle.heap.specs.declared.Place.{Place}
@@ -14,16 +18,8 @@ use Rattle.heap.specs.declared.SlotState.{SlotState}
 use Rattle.heap.specs.declared.SlotState.TheVariants as State
 use Rattle.heap.specs.declared.Heap.{Heap}
 use Rattle.heap.specs.declared.walk.Moved.{Moved}
-use Rattle.heap.specs.declared.Guard.{Guard}
-use Rattle.heap.specs.declared.Guard.TheVariants as G
 use Rattle.heap.specs.declared.Pushed.{Pushed}
-use Rattle.heap.specs.declared.Pushed.TheVariants as P
-use Rattle.heap.specs.declared.AfterPush.{AfterPush}
 use Rattle.heap.specs.declared.Removed.{Removed}
-use Rattle.heap.specs.declared.Removed.TheVariants as R
-use Rattle.heap.specs.declared.AfterRemove.{AfterRemove}
-use Rattle.heap.specs.declared.Peeked.{Peeked}
-use Rattle.heap.specs.declared.Peeked.TheVariants as K
 use Rattle.heap.specs.Rules.{no_entry, entry_at, state_at, pushed_of, removed_of}
 use Rattle.heap.specs.Faults.{fault_of}
 
@@ -108,28 +104,37 @@ peek_by a (unsound f) = unsound f
 abbrev pub peek_of : Heap → Answer (Option Entry)
 peek_of h = peek_by (peek_sound h) (guard_of h)
 
--- what the code's answers say
-abbrev pub said_guard : Guard → Answer Nothing
-said_guard G.Sound = accepted tt
-said_guard (G.Refused r) = refuse r
+-- what the code's answers say: a push its slot and its swaps, a removal its entry and its swaps, a pop and a peek what is there,
+-- if anything
+abbrev pub said_guard : Result ⊤ Refusal → Answer Nothing
+said_guard = said_by (λ (u : ⊤). u)
 
-abbrev pub said_push : Pushed → Answer (Slot × ℕ)
-said_push (P.Done s n) = accepted (s, n)
-said_push (P.Refused r) = refuse r
+abbrev pub said_push : Result Pushed Refusal → Answer (Slot × ℕ)
+said_push = said_by (λ (r : Pushed). (r.slot, r.swaps))
 
-abbrev pub said_remove : Removed → Answer Off
-said_remove (R.Done e n) = accepted (some (e, n))
-said_remove R.Nothing = accepted none
-said_remove (R.Refused r) = refuse r
+abbrev pub said_remove : Result Removed Refusal → Answer Off
+said_remove = said_by (λ (r : Removed). some (r.entry, r.swaps))
 
-abbrev pub said_peek : Peeked → Answer (Option Entry)
-said_peek (K.Head e) = accepted (some e)
-said_peek K.Nothing = accepted none
-said_peek (K.Refused r) = refuse r
+abbrev pub off_by : Std.Option Removed → Off
+off_by Std.None = none
+off_by (Std.Some r) = some (r.entry, r.swaps)
+
+abbrev pub said_pop : Result (Std.Option Removed) Refusal → Answer Off
+said_pop = said_by off_by
+
+abbrev pub head_by : Std.Option Entry → Option Entry
+head_by Std.None = none
+head_by (Std.Some e) = some e
+
+abbrev pub said_peek : Result (Std.Option Entry) Refusal → Answer (Option Entry)
+said_peek = said_by head_by
 
 -- the heap handed back, and what is said
-abbrev pub told_push : AfterPush → Outcome Heap (Slot × ℕ)
-told_push r = record { state = r.heap; answer = said_push r.answer }
+abbrev pub told_push : Code.Outcome Heap Pushed → Outcome Heap (Slot × ℕ)
+told_push r = record { state = r.state; answer = said_push r.answer }
 
-abbrev pub told_remove : AfterRemove → Outcome Heap Off
-told_remove r = record { state = r.heap; answer = said_remove r.answer }
+abbrev pub told_remove : Code.Outcome Heap Removed → Outcome Heap Off
+told_remove r = record { state = r.state; answer = said_remove r.answer }
+
+abbrev pub told_pop : Code.Outcome Heap (Std.Option Removed) → Outcome Heap Off
+told_pop r = record { state = r.state; answer = said_pop r.answer }

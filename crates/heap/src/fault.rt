@@ -9,41 +9,26 @@ ghost use Rattle.heap.specs.Faults.{full_at, count_fault, position_fault, order_
 ghost use Rattle.heap.specs.Promises.{Faults};
 
 use crate::{CAP, Heap, Pos, SlotState};
-use refusals::fault::{Fault, Verdict};
+use refusals::fault::Fault;
 
 // The first fault of a heap, in the order of the kinds.
-pub fn first_fault(h: Heap) -> Verdict
+pub fn first_fault(h: Heap) -> Result<(), Fault>
     ensures { Faults h result }
 {
-    let c = count_fault(h);
-    let Verdict::Sound = c else {
-        return c;
-    };
-    let p = position_fault(h);
-    let Verdict::Sound = p else {
-        return p;
-    };
-    let o = order_fault(h);
-    let Verdict::Sound = o else {
-        return o;
-    };
+    count_fault(h)?;
+    position_fault(h)?;
+    order_fault(h)?;
     chain_fault(h)
 }
 
 // Whether the counts are wrong.
-fn count_fault(h: Heap) -> Verdict
+fn count_fault(h: Heap) -> Result<(), Fault>
     ensures { said_verdict result ≡ count_fault h }
 {
-    if CAP < h.len {
-        return Verdict::Broken(Fault::Count);
-    }
-    if CAP < h.made {
-        return Verdict::Broken(Fault::Count);
-    }
-    if full_count(h) == h.len {
-        Verdict::Sound
+    if h.len <= CAP && h.made <= CAP && full_count(h) == h.len {
+        Ok(())
     } else {
-        Verdict::Broken(Fault::Count)
+        Err(Fault::Count)
     }
 }
 
@@ -52,94 +37,59 @@ fn full_count(h: Heap) -> usize
     requires { h.made ≤ cap }
     ensures { result ≡ count (full_at h) h.made }
 {
-    let mut n: usize = 0;
-    let mut s: usize = 0;
-    while s < h.made {
-        let x = h.slots[s];
-        let st = x.state;
-        if let SlotState::Full(_) = st {
-            n += 1;
-        }
-        s += 1;
-    }
-    n
+    h.slots[..h.made].iter().filter(|s| s.is_full()).count()
 }
 
 // The first position whose entry's slot was not made, is empty, or names another position.
-fn position_fault(h: Heap) -> Verdict
+fn position_fault(h: Heap) -> Result<(), Fault>
     requires { (h.len ≤ cap) × (h.made ≤ cap) }
     ensures { said_verdict result ≡ position_fault h }
 {
-    let mut i: usize = 0;
-    while i < h.len {
-        let at = Pos(i as u16);
-        let e = h.entries[i];
-        let slot = e.slot;
-        let s = slot.0 as usize;
-        if h.made <= s {
-            return Verdict::Broken(Fault::Position(i as u64));
+    for (i, e) in h.entries[..h.len].iter().enumerate() {
+        let s = e.slot.0 as usize;
+        if h.made <= s || !h.slots[s].names(Pos(i as u16)) {
+            return Err(Fault::Position(i as u64));
         }
-        let x = h.slots[s];
-        let st = x.state;
-        let SlotState::Full(pos) = st else {
-            return Verdict::Broken(Fault::Position(i as u64));
-        };
-        if pos.0 != at.0 {
-            return Verdict::Broken(Fault::Position(i as u64));
-        }
-        i += 1;
     }
-    Verdict::Sound
+    Ok(())
 }
 
 // The first position whose entry is smaller than its parent.
-fn order_fault(h: Heap) -> Verdict
+fn order_fault(h: Heap) -> Result<(), Fault>
     requires { h.len ≤ cap }
     ensures { said_verdict result ≡ order_fault h }
 {
-    let mut i: usize = 1;
-    while i < h.len {
-        let e = h.entries[i];
-        let p = h.entries[(i - 1) / 2];
-        if crate::before(e, p) {
-            return Verdict::Broken(Fault::Order(i as u64));
+    for i in 1..h.len {
+        if crate::before(h.entries[i], h.entries[(i - 1) / 2]) {
+            return Err(Fault::Order(i as u64));
         }
-        i += 1;
     }
-    Verdict::Sound
+    Ok(())
 }
 
 // The first step at which the free chain meets a slot that was not made, is full or was met before, ends too soon, or goes on too
 // long. It marks the slots that it meets: a loop is noticed where it closes.
-fn chain_fault(h: Heap) -> Verdict
+fn chain_fault(h: Heap) -> Result<(), Fault>
     requires { Counted h }
     ensures { said_verdict result ≡ chain_fault h }
 {
-    let n = h.made - h.len;
+    let empty = h.made - h.len;
     let mut met = [false; CAP];
-    let mut step: usize = 0;
     let mut at = h.free;
-    while step < n {
+    for step in 0..empty {
         let s = at.0 as usize;
-        if h.made <= s {
-            return Verdict::Broken(Fault::FreeChain(step as u64));
+        if h.made <= s || met[s] {
+            return Err(Fault::FreeChain(step as u64));
         }
-        if met[s] {
-            return Verdict::Broken(Fault::FreeChain(step as u64));
-        }
-        let x = h.slots[s];
-        let st = x.state;
-        let SlotState::Empty(next) = st else {
-            return Verdict::Broken(Fault::FreeChain(step as u64));
+        let SlotState::Empty(next) = h.slots[s].state else {
+            return Err(Fault::FreeChain(step as u64));
         };
         met[s] = true;
         at = next;
-        step += 1;
     }
-    let end = at.0 as usize;
-    if end == h.made {
-        Verdict::Sound
+    if at.0 as usize == h.made {
+        Ok(())
     } else {
-        Verdict::Broken(Fault::FreeChain(step as u64))
+        Err(Fault::FreeChain(empty as u64))
     }
 }

@@ -14,25 +14,27 @@ mod walk;
 ghost use Rattle.std.specs.Prelude.{◌≡◌, ◌<◌, ◌≤◌};
 ghost use Rattle.heap.specs.Capacity.{cap};
 ghost use Rattle.heap.specs.Rules.{taken_of, vacated_of, filled_of};
+ghost use Rattle.heap.specs.Faults.{is_full, names};
 ghost use Rattle.heap.specs.Sound.{Sound, SlotsIn};
 ghost use Rattle.heap.specs.Promises.{Capacity, Before, Heights, Fresh, Consistent, Guards, Pushes, Removes, Pops, Peeks, PushesSound, RemovesSound, PopsSound, PeeksSound};
 
+use crate::walk::Moved;
 use refusals::Refusal;
-use refusals::fault::Verdict;
+use refusals::outcome::Outcome;
 
 // How many entries a heap holds at most: `cap` of specs/Capacity.antt.
 pub const CAP: usize = 256;
 
 // A slot number: it names an entry, wherever the entry stands.
-#[derive(Clone, Copy)]
+#[derive(Clone, Copy, PartialEq, Eq)]
 pub struct Slot(pub u16);
 
 // A position in the heap; the head is at 0.
-#[derive(Clone, Copy)]
+#[derive(Clone, Copy, PartialEq, Eq)]
 pub struct Pos(pub u16);
 
 // A timer's place, which the heap only keeps.
-#[derive(Clone, Copy)]
+#[derive(Clone, Copy, PartialEq, Eq, PartialOrd, Ord)]
 pub struct Place(pub u16);
 
 #[derive(Clone, Copy)]
@@ -56,6 +58,22 @@ pub struct SlabSlot {
     pub state: SlotState,
 }
 
+impl SlabSlot {
+    // Whether an entry stands in the slot.
+    fn is_full(self) -> bool
+        ensures { result ≡ is_full self.state }
+    {
+        matches!(self.state, SlotState::Full(_))
+    }
+
+    // Whether the slot is full and names the position.
+    fn names(self, at: Pos) -> bool
+        ensures { result ≡ names self.state at.0 }
+    {
+        matches!(self.state, SlotState::Full(pos) if pos == at)
+    }
+}
+
 // Only the first `len` entries and the first `made` slots are in use.
 #[derive(Clone, Copy)]
 pub struct Heap {
@@ -66,52 +84,18 @@ pub struct Heap {
     pub free: Slot,
 }
 
-// What the test of a heap says to a call.
+// What a push answers: the entry's slot, and the swaps that the push took.
 #[derive(Clone, Copy)]
-pub enum Guard {
-    Sound,
-    Refused(Refusal),
+pub struct Pushed {
+    pub slot: Slot,
+    pub swaps: usize,
 }
 
-// What a push answers.
+// What is taken off: the entry, and the swaps that its removal took.
 #[derive(Clone, Copy)]
-pub enum Pushed {
-    // the entry's slot, and the swaps that the push took
-    Done { slot: Slot, swaps: usize },
-    Refused(Refusal),
-}
-
-// The heap after a push, or as it was where the push is refused.
-#[derive(Clone, Copy)]
-pub struct AfterPush {
-    pub heap: Heap,
-    pub answer: Pushed,
-}
-
-// What a removal or a pop answers.
-#[derive(Clone, Copy)]
-pub enum Removed {
-    // the entry, and the swaps that the removal took
-    Done { entry: Entry, swaps: usize },
-    // the heap is empty
-    Nothing,
-    Refused(Refusal),
-}
-
-// The heap after a removal or a pop, or as it was where nothing is taken.
-#[derive(Clone, Copy)]
-pub struct AfterRemove {
-    pub heap: Heap,
-    pub answer: Removed,
-}
-
-// What a peek answers.
-#[derive(Clone, Copy)]
-pub enum Peeked {
-    Head(Entry),
-    // the heap is empty
-    Nothing,
-    Refused(Refusal),
+pub struct Removed {
+    pub entry: Entry,
+    pub swaps: usize,
 }
 
 // The capacity of the code is that of the rules.
@@ -135,7 +119,7 @@ pub fn height(n: usize) -> u32
     if n == 0 {
         return 0;
     }
-    63 - u64::leading_zeros(n as u64)
+    63 - (n as u64).leading_zeros()
 }
 
 // The empty heap.
@@ -164,80 +148,62 @@ pub fn fresh() -> Heap
 pub fn consistent(h: Heap) -> bool
     ensures { Consistent h result }
 {
-    let f = fault::first_fault(h);
-    if let Verdict::Sound = f { true } else { false }
+    fault::first_fault(h).is_ok()
 }
 
 // Push, remove, pop and peek begin here: whether the call may be made, or why not.
-fn guarded(h: Heap) -> Guard
+fn guarded(h: Heap) -> Result<(), Refusal>
     ensures { Guards h result }
 {
-    match fault::first_fault(h) {
-        Verdict::Sound => Guard::Sound,
-        Verdict::Broken(f) => Guard::Refused(Refusal::Unsound(f)),
-    }
+    fault::first_fault(h).map_err(Refusal::Unsound)
 }
 
 // Adds an entry. Refuses an unsound heap, then a full one.
-pub fn push(h: Heap, at: u64, generation: u32, place: Place) -> AfterPush
+pub fn push(h: Heap, at: u64, generation: u32, place: Place) -> Outcome<Heap, Pushed>
     ensures { Pushes h at generation place result }
 {
-    if let Guard::Refused(why) = guarded(h) {
-        return AfterPush {
-            heap: h,
-            answer: Pushed::Refused(why),
-        };
+    match guarded(h) {
+        Ok(()) => push_sound(h, at, generation, place),
+        Err(why) => Outcome::kept(h, why),
     }
-    push_sound(h, at, generation, place)
 }
 
 // Removes the entry of a slot. Refuses an unsound heap, then a slot that was never made or is empty.
-pub fn remove(h: Heap, slot: Slot) -> AfterRemove
+pub fn remove(h: Heap, slot: Slot) -> Outcome<Heap, Removed>
     ensures { Removes h slot result }
 {
-    if let Guard::Refused(why) = guarded(h) {
-        return AfterRemove {
-            heap: h,
-            answer: Removed::Refused(why),
-        };
+    match guarded(h) {
+        Ok(()) => remove_sound(h, slot),
+        Err(why) => Outcome::kept(h, why),
     }
-    remove_sound(h, slot)
 }
 
 // Takes the head off, if there is one. Refuses an unsound heap.
-pub fn pop(h: Heap) -> AfterRemove
+pub fn pop(h: Heap) -> Outcome<Heap, Option<Removed>>
     ensures { Pops h result }
 {
-    if let Guard::Refused(why) = guarded(h) {
-        return AfterRemove {
-            heap: h,
-            answer: Removed::Refused(why),
-        };
+    match guarded(h) {
+        Ok(()) => pop_sound(h),
+        Err(why) => Outcome::kept(h, why),
     }
-    pop_sound(h)
 }
 
 // The head, if there is one. Refuses an unsound heap.
-pub fn peek(h: Heap) -> Peeked
+pub fn peek(h: Heap) -> Result<Option<Entry>, Refusal>
     ensures { Peeks h result }
 {
-    if let Guard::Refused(why) = guarded(h) {
-        return Peeked::Refused(why);
-    }
-    peek_sound(h)
+    guarded(h)?;
+    Ok(peek_sound(h))
 }
 
 // Adds an entry to a sound heap.
-pub fn push_sound(h: Heap, at: u64, generation: u32, place: Place) -> AfterPush
+pub fn push_sound(h: Heap, at: u64, generation: u32, place: Place) -> Outcome<Heap, Pushed>
     requires { Sound h }
     ensures { PushesSound h at generation place result }
 {
     let n = h.len;
     if CAP <= n {
-        return AfterPush {
-            heap: h,
-            answer: Pushed::Refused(Refusal::Full),
-        };
+        return Outcome::kept(h, Refusal::Full);
     }
     let slot = h.free;
     let e = Entry {
@@ -249,120 +215,77 @@ pub fn push_sound(h: Heap, at: u64, generation: u32, place: Place) -> AfterPush
     // one longer, with a hole at its end
     let mut w = taken(h);
     w.len = n + 1;
-    let m = walk::percolate_up(w, e, Pos(n as u16));
-    let g = m.heap;
-    AfterPush {
-        heap: g,
-        answer: Pushed::Done {
-            slot,
-            swaps: m.swaps,
-        },
-    }
+    let Moved { heap, swaps, .. } = walk::percolate_up(w, e, Pos(n as u16));
+    Outcome::given(heap, Pushed { slot, swaps })
 }
 
 // Removes the entry of a slot from a sound heap.
-pub fn remove_sound(h: Heap, slot: Slot) -> AfterRemove
+pub fn remove_sound(h: Heap, slot: Slot) -> Outcome<Heap, Removed>
     requires { Sound h }
     ensures { RemovesSound h slot result }
 {
     let s = slot.0 as usize;
     if h.made <= s {
-        return AfterRemove {
-            heap: h,
-            answer: Removed::Refused(Refusal::VacantSlot),
-        };
+        return Outcome::kept(h, Refusal::VacantSlot);
     }
-    let sl = h.slots[s];
-    let st = sl.state;
-    match st {
-        SlotState::Full(pos) => {
-            let p = pos.0 as usize;
-            let e = h.entries[p];
-            let m = filled(vacated(h, slot), pos);
-            let g = m.heap;
-            AfterRemove {
-                heap: g,
-                answer: Removed::Done {
-                    entry: e,
-                    swaps: m.swaps,
-                },
-            }
-        }
-        SlotState::Empty(_) => AfterRemove {
-            heap: h,
-            answer: Removed::Refused(Refusal::VacantSlot),
-        },
-    }
+    let SlotState::Full(pos) = h.slots[s].state else {
+        return Outcome::kept(h, Refusal::VacantSlot);
+    };
+    let entry = h.entries[pos.0 as usize];
+    let Moved { heap, swaps, .. } = filled(vacated(h, slot), pos);
+    Outcome::given(heap, Removed { entry, swaps })
 }
 
 // Takes the head off a sound heap, if there is one.
-pub fn pop_sound(h: Heap) -> AfterRemove
+pub fn pop_sound(h: Heap) -> Outcome<Heap, Option<Removed>>
     requires { Sound h }
     ensures { PopsSound h result }
 {
     if h.len == 0 {
-        return AfterRemove {
-            heap: h,
-            answer: Removed::Nothing,
-        };
+        return Outcome::given(h, None);
     }
-    let e = h.entries[0];
-    remove_sound(h, e.slot)
+    let entry = h.entries[0];
+    let Moved { heap, swaps, .. } = filled(vacated(h, entry.slot), Pos(0));
+    Outcome::given(heap, Some(Removed { entry, swaps }))
 }
 
 // The head of a sound heap, if there is one.
-pub fn peek_sound(h: Heap) -> Peeked
+pub fn peek_sound(h: Heap) -> Option<Entry>
     requires { Sound h }
     ensures { PeeksSound h result }
 {
-    if h.len == 0 {
-        return Peeked::Nothing;
-    }
-    Peeked::Head(h.entries[0])
+    (0 < h.len).then_some(h.entries[0])
 }
 
 // The free head is taken: where it equals the number of slots so far, one more is made.
-fn taken(h: Heap) -> Heap
+fn taken(mut h: Heap) -> Heap
     requires { (h.made ≤ cap) × (h.free.0 < cap) }
     ensures { result ≡ taken_of h }
 {
     let s = h.free.0 as usize;
-    let n = h.made;
-    let mut g = h;
-    if s == n {
-        g.made = n + 1;
-        let f = Slot((n + 1) as u16);
-        g.free = f;
-        return g;
+    if s == h.made {
+        h.made += 1;
+        h.free = Slot(h.made as u16);
+    } else if let SlotState::Empty(next) = h.slots[s].state {
+        h.free = next;
     }
-    let sl = g.slots[s];
-    let st = sl.state;
-    match st {
-        SlotState::Empty(next) => {
-            g.free = next;
-            g
-        }
-        SlotState::Full(_) => g,
-    }
+    h
 }
 
 // The slot becomes the free head, naming the old one.
-fn vacated(h: Heap, slot: Slot) -> Heap
+fn vacated(mut h: Heap, slot: Slot) -> Heap
     requires { slot.0 < cap }
     ensures { result ≡ vacated_of h slot }
 {
-    let s = slot.0 as usize;
-    let f = h.free;
-    let mut g = h;
-    g.slots[s] = SlabSlot {
-        state: SlotState::Empty(f),
+    h.slots[slot.0 as usize] = SlabSlot {
+        state: SlotState::Empty(h.free),
     };
-    g.free = slot;
-    g
+    h.free = slot;
+    h
 }
 
 // The last entry moves into the hole at a position, and from there up or down.
-fn filled(h: Heap, pos: Pos) -> walk::Moved
+fn filled(mut h: Heap, pos: Pos) -> Moved
     requires pos_lt_len { pos.0 < h.len }
     requires slots_in { SlotsIn h }
     ensures { result ≡ filled_of h pos.0 }
@@ -371,18 +294,16 @@ fn filled(h: Heap, pos: Pos) -> walk::Moved
     let p = pos.0 as usize;
     let gone = h.entries[p];
     let e = h.entries[last];
-    let mut g = h;
-    g.len = last;
+    h.len = last;
     if p == last {
-        return walk::Moved {
-            heap: g,
+        Moved {
+            heap: h,
             at: pos,
             swaps: 0,
-        };
-    }
-    if before(e, gone) {
-        walk::percolate_up(g, e, pos)
+        }
+    } else if before(e, gone) {
+        walk::percolate_up(h, e, pos)
     } else {
-        walk::percolate_down(g, e, pos)
+        walk::percolate_down(h, e, pos)
     }
 }

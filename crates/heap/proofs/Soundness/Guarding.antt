@@ -3,16 +3,20 @@
 use mathlib.Core.Path.{◌≡◌, refl}
 use mathlib.Core.Bool.{true}
 use mathlib.Core.Option.{Option, none, some}
+use lib.ListN.{length}
 use Rattle.refusals.specs.declared.fault.Fault.{Fault}
 use Rattle.refusals.specs.declared.Refusal.{Refusal}
 use Rattle.refusals.specs.declared.Refusal.TheVariants.{Unsound}
 use Rattle.refusals.specs.Answer.{Answer, accepted, refuse, Outcome, kept}
 use Rattle.theory.specs.Chain.{clear}
 use Rattle.refusals.proofs.Refusing.{any_refusal, not_both}
+use Rattle.heap.specs.Capacity.{cap}
 use Rattle.heap.specs.declared.Entry.{Entry}
 use Rattle.heap.specs.declared.Heap.{Heap}
 use Rattle.heap.specs.Faults.{fault_of, consistent_of}
+use Rattle.heap.specs.Sound.{Sound}
 use Rattle.heap.specs.Calls.{passing, guard_of, guarded_by, guarded, peek_by}
+use Rattle.heap.proofs.Testing.Test.{consistent_sound}
 
 -- let through: the test says yes
 pub passed : (h : Heap) → accepted tt ≡ guard_of h → consistent_of h ≡ true
@@ -22,6 +26,10 @@ passed h e = go (fault_of h) e
     go : (o : Option Fault) → accepted tt ≡ passing o → clear o ≡ true
     go none e = refl
     go (some f) e = absurd (not_both (Unsound f) e)
+
+-- so the heap is sound; how long its arrays are the code's types say
+pub passed_sound : (h : Heap) → length h.entries ≡ cap → length h.slots ≡ cap → accepted tt ≡ guard_of h → Sound h
+passed_sound h n m e = consistent_sound h n m (passed h e)
 
 -- what is guarded is a choice by the first fault
 abbrev pub judged : {A : Type 0} → Heap → Outcome Heap A → Option Fault → Outcome Heap A

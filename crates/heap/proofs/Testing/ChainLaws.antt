@@ -96,6 +96,8 @@ module _ (h : Heap) where
         sym (ap (fault_by FreeChain) (walk_ends (empty_at h) (next_at h) h.made _ (omega (arith, w.many, w.walk.within)) (ended e)))
 
     -- and one where it goes on
-    pub chain_long : n ≤ k → at ≢ h.made → some (FreeChain k) ≡ chain_fault h
+    pub chain_long : n ≤ k → at ≢ h.made → some (FreeChain n) ≡ chain_fault h
     chain_long l d =
-        wrong (walk_long (empty_at h) (next_at h) h.made _ (omega (arith, w.many, w.walk.within)) (empty_made h) (stands d))
+        let e : k ≡ n = omega (arith, w.many, w.walk.within) in
+        subst (λ (j : ℕ). some (FreeChain j) ≡ chain_fault h) e
+        (wrong (walk_long (empty_at h) (next_at h) h.made _ (omega (arith, w.many, w.walk.within)) (empty_made h) (stands d)))

@@ -1,12 +1,16 @@
 -- The heap test's rules, turn by turn: what one turn of a scan over positions or slots makes of its rule.
 -- Assumes nothing.
-use mathlib.Core.Path.{◌≡◌, sym, ap, ◌∙◌}
-use mathlib.Core.Logic.{◌≢◌}
+use mathlib.Core.Path.{◌≡◌, refl, sym, ap, ◌∙◌}
 use mathlib.Core.Bool.{Bool, true, false, not}
 use mathlib.Core.Option.{Option, none, some}
-use Prim.Native.Nat.{ℕ, ◌+◌, ◌-◌, ◌<◌, ◌≤◌}
+use Prim.Native.Nat.{ℕ, zero, suc, ◌+◌, ◌-◌, ◌<◌, ◌≤◌}
+use native.Mathlib.Numerals.{add-one}
 use native.Mathlib.Omega.{arith}
-use borrow.Author.Tests.{lt-ltb, le-ltb, eq-eqb, ne_eqb}
+use lib.ListN.{length, take}
+use borrow.Author.Tests.{lt-ltb, le-ltb, eq-eqb}
+use Rattle.std.specs.List.{count_by}
+use Rattle.std.proofs.lemmas.List.Sums.{count_by_more_yes, count_by_more_no}
+use Rattle.theory.specs.Counting.{tally, count}
 use Rattle.theory.specs.First.{first_bad}
 use Rattle.theory.specs.Order.{parent}
 use Rattle.theory.proofs.First.{first_goes, first_here, first_done}
@@ -15,8 +19,9 @@ use Rattle.refusals.specs.Faults.{fault_by}
 use Rattle.heap.specs.declared.Pos.{Pos}
 use Rattle.heap.specs.declared.Slot.{Slot}
 use Rattle.heap.specs.declared.SlotState.TheVariants.{Full, Empty}
+use Rattle.heap.specs.declared.SlabSlot.{SlabSlot}
 use Rattle.heap.specs.declared.Heap.{Heap}
-use Rattle.heap.specs.Rules.{entry_at, state_at, slot_at, before}
+use Rattle.heap.specs.Rules.{no_slot, entry_at, state_at, slot_at, before}
 use Rattle.heap.specs.Faults.{is_full, names, full_at, empty_at, position_ok, order_ok}
 
 -- the fault of a scan that has come to i and has the numbers below the end to go
@@ -41,6 +46,19 @@ module _ (kind : ℕ → Fault) (ok : ℕ → Bool) where
   unfolding scan
   scan_done {end} {i} l = ap (fault_by kind) (first_done ok (end - i) i (omega arith))
 
+-- of the first n slots so many are full
+pub full_counted : (h : Heap) (n : ℕ) → n ≤ length h.slots → count_by (λ (x : SlabSlot). is_full x.state) (take n h.slots) ≡ count (full_at h) n
+unfolding count full_at
+full_counted h zero l = refl
+full_counted h (suc n) l = go (full_at h n) refl (full_counted h n (omega arith))
+  where
+    p : SlabSlot → Bool
+    p x = is_full x.state
+
+    go : (b : Bool) → full_at h n ≡ b → count_by p (take n h.slots) ≡ count (full_at h) n → count_by p (take (suc n) h.slots) ≡ tally b (count (full_at h) n)
+    go true e r = rw (← add-one n) (omega (arith, r, count_by_more_yes p h.slots n no_slot (omega arith) e))
+    go false e r = rw (← add-one n) (omega (arith, r, count_by_more_no p h.slots n no_slot (omega arith) e))
+
 module _ (h : Heap) where
   -- a slot whose state is empty is not full
   pub full_no : (s : ℕ) {n : Slot} → state_at h s ≡ Empty n → full_at h s ≡ false
@@ -57,20 +75,14 @@ module _ (h : Heap) where
   unfolding position_ok
   position_past i l = rw (le-ltb (slot_at h i) h.made l)
 
-  -- an entry fails whose slot is empty
-  pub position_empty : (i : ℕ) {n : Slot} → slot_at h i < h.made → state_at h (slot_at h i) ≡ Empty n → position_ok h i ≡ false
+  -- an entry whose slot was made passes as the slot names its position or not
+  pub position_by : (i : ℕ) {b : Bool} → slot_at h i < h.made → names (state_at h (slot_at h i)) i ≡ b → position_ok h i ≡ b
   unfolding position_ok
-  position_empty i l e = rw (lt-ltb (slot_at h i) h.made l) (ap (λ x. names x i) e)
-
-  -- an entry fails whose slot names another position
-  pub position_other : (i : ℕ) {p : Pos} → slot_at h i < h.made → state_at h (slot_at h i) ≡ Full p → p.0 ≢ i → position_ok h i ≡ false
-  unfolding position_ok
-  position_other i {p} l e d = rw (lt-ltb (slot_at h i) h.made l) (ap (λ x. names x i) e ∙ ne_eqb p.0 i d)
+  position_by i l e = rw (lt-ltb (slot_at h i) h.made l) e
 
   -- an entry passes whose slot is full and names its position
   pub position_yes : (i : ℕ) {p : Pos} → slot_at h i < h.made → state_at h (slot_at h i) ≡ Full p → p.0 ≡ i → position_ok h i ≡ true
-  unfolding position_ok
-  position_yes i {p} l e d = rw (lt-ltb (slot_at h i) h.made l) (ap (λ x. names x i) e ∙ eq-eqb p.0 i d)
+  position_yes i {p} l e d = position_by i l (ap (λ x. names x i) e ∙ eq-eqb p.0 i d)
 
   -- an entry passes where it does not go before its parent
   pub order_not : (i : ℕ) {b : Bool} → before (entry_at h i) (entry_at h (parent i)) ≡ b → order_ok h i ≡ not b

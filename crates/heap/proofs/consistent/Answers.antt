@@ -1,15 +1,17 @@
 -- `consistent` is right: it says yes exactly where no fault is found.
 -- Assumes nothing.
-use mathlib.Core.Path.{sym, ap, ◌∙◌}
+use mathlib.Core.Path.{◌≡◌, refl, ap, ◌∙◌}
+use Rattle.std.specs.Prelude.{Result, Ok, Err, is_ok, ⊤}
 use Rattle.theory.specs.Chain.{clear}
+use Rattle.refusals.specs.declared.fault.Fault.{Fault}
 use Rattle.refusals.specs.Faults.{said_verdict}
 use Rattle.heap.specs.Faults.{consistent_of}
 use Rattle.heap.proofs.consistent.Goals as goal
 
-pub returns-in-Sound : goal.returns-in-Sound
-unfolding consistent_of
-returns-in-Sound c = ap clear (sym (ap said_verdict c.in-Sound.is) ∙ c.first_fault-f.ensures)
+clear_said : (r : Result ⊤ Fault) → is_ok r ≡ clear (said_verdict r)
+clear_said (Ok u) = refl
+clear_said (Err f) = refl
 
-pub returns-in_default : goal.returns-in_default
+pub returns : goal.returns
 unfolding consistent_of
-returns-in_default c = ap clear (sym (ap said_verdict c.in_default.is) ∙ c.first_fault-f.ensures)
+returns c = c.is_ok.ensures.value ∙ clear_said c.first_fault.result ∙ ap clear c.first_fault.ensures

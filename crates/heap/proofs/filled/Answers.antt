@@ -23,12 +23,12 @@ pub returns-then-before : goal.returns-then-before
 unfolding filled_of
 returns-then-before c =
     let h = c.args.h in
-    let smaller : before (entry_at h (h.len - 1)) (entry_at h c.args.pos.0) ≡ true = sym c.before-2.ensures ∙ c.if-before.true in
+    let smaller : before (entry_at h (h.len - 1)) (entry_at h c.args.pos.0) ≡ true = sym c.before-else-p-last.ensures ∙ c.if-before.true in
     rw (c.percolate_up.ensures, ne_eqb _ _ c.if-p-last.false, smaller)
 
 pub returns-else-before : goal.returns-else-before
 unfolding filled_of
 returns-else-before c =
     let h = c.args.h in
-    let smaller : before (entry_at h (h.len - 1)) (entry_at h c.args.pos.0) ≡ false = sym c.before-2.ensures ∙ c.if-before.false in
+    let smaller : before (entry_at h (h.len - 1)) (entry_at h c.args.pos.0) ≡ false = sym c.before-else-p-last.ensures ∙ c.if-before.false in
     rw (c.percolate_down.ensures, ne_eqb _ _ c.if-p-last.false, smaller)

@@ -1,14 +1,22 @@
 -- The guard answers as the test does, and hands the fault on.
 -- Assumes nothing.
-use mathlib.Core.Path.{sym, ap, ◌∙◌}
+use mathlib.Core.Path.{◌≡◌, ap, ◌∙◌}
+use borrow.Author.Rules.{rules}
+use Rattle.std.specs.Prelude.{Result, Ok, Err, MatchResult, IsErrAnd, ⊤}
+use Rattle.refusals.specs.declared.fault.Fault.{Fault}
+use Rattle.refusals.specs.declared.Refusal.{Refusal}
+use Rattle.refusals.specs.declared.Refusal.TheVariants.{Unsound}
 use Rattle.refusals.specs.Faults.{said_verdict}
-use Rattle.heap.specs.Calls.{passing, guard_of}
+use Rattle.refusals.specs.Answer.{refuse}
+use Rattle.heap.specs.Calls.{passing, guard_of, said_guard}
 use Rattle.heap.proofs.guarded.Goals as goal
 
-pub returns-in-Sound : goal.returns-in-Sound
-unfolding guard_of
-returns-in-Sound c = ap passing (sym (ap said_verdict c.in-Sound.is) ∙ c.first_fault.ensures)
+handed : {Q : Fault → Refusal → Type 0} → ((f : Fault) (why : Refusal) → Q f why → why ≡ Unsound f)
+    → (r : Result ⊤ Fault) (s : Result ⊤ Refusal) → MatchResult r (λ x. s ≡ Ok x) (λ f. IsErrAnd s (Q f)) → said_guard s ≡ passing (said_verdict r)
+handed q (Ok u) s e = ap said_guard e
+handed q (Err f) (Ok u) e = absurd e
+handed q (Err f) (Err why) e = ap refuse (q f why e)
 
-pub returns-in-Broken : goal.returns-in-Broken
+pub returns : goal.returns
 unfolding guard_of
-returns-in-Broken c = ap passing (sym (ap said_verdict c.in-Broken.is) ∙ c.first_fault.ensures)
+returns c = handed (λ f why q. search rules) _ _ c.map_err.ensures.cases ∙ ap passing c.first_fault.ensures

@@ -12,22 +12,22 @@ use Rattle.heap.proofs.remove_sound.Goals as goal
 
 pub returns-then-h-s : goal.returns-then-h-s
 unfolding remove_sound
-returns-then-h-s c = simp (le-ltb c.args.slot.0 c.args.h.made (omega arith))
+returns-then-h-s c = rw (c.kept.ensures, le-ltb c.args.slot.0 c.args.h.made (omega arith))
 
-pub bounds-h-p : goal.bounds-h-p
-bounds-h-p c = omega (arith, (full_back _ c.requires _ _ c.if-h-s.false c.in-Full.is).0, c.requires.len_in)
+pub bounds-h-pos : goal.bounds-h-pos
+bounds-h-pos c = omega (arith, (full_back _ c.requires _ _ c.if-h-s.false c.in-Full.is).0, c.requires.len_in)
 
-pub filled-m-requires-clause-pos_lt_len : goal.filled-m-requires-clause-pos_lt_len
-filled-m-requires-clause-pos_lt_len c = rw (ap (λ (g : Heap). g.len) c.vacated.ensures, len_vacated) (full_back _ c.requires _ _ c.if-h-s.false c.in-Full.is).0
+pub filled-swaps-requires-clause-pos_lt_len : goal.filled-swaps-requires-clause-pos_lt_len
+filled-swaps-requires-clause-pos_lt_len c = rw (ap (λ (g : Heap). g.len) c.vacated.ensures, len_vacated) (full_back _ c.requires _ _ c.if-h-s.false c.in-Full.is).0
 
-pub filled-m-requires-clause-slots_in : goal.filled-m-requires-clause-slots_in
-filled-m-requires-clause-slots_in c = rw c.vacated.ensures (slots_in_vacated _ _ (slots_in_range _ c.requires))
+pub filled-swaps-requires-clause-slots_in : goal.filled-swaps-requires-clause-slots_in
+filled-swaps-requires-clause-slots_in c = rw c.vacated.ensures (slots_in_vacated _ _ (slots_in_range _ c.requires))
 
-pub returns-in-Full : goal.returns-in-Full
+pub returns : goal.returns
 unfolding remove_sound removed_of
-returns-in-Full c =
-    rw (lt-ltb _ _ c.if-h-s.false, c.in-Full.is, c.filled-m.ensures, c.vacated.ensures)
+returns c =
+    rw (c.given.ensures, lt-ltb _ _ c.if-h-s.false, c.in-Full.is, c.filled-swaps.ensures, c.vacated.ensures)
 
-pub returns-in-Empty : goal.returns-in-Empty
+pub returns-in_default : goal.returns-in_default
 unfolding remove_sound
-returns-in-Empty c = rw (lt-ltb _ _ c.if-h-s.false, c.in-Empty.is)
+returns-in_default c = rw (c.kept-in_default.ensures, lt-ltb _ _ c.if-h-s.false, c.in_default.is)

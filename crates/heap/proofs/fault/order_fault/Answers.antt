@@ -2,7 +2,6 @@
 -- Assumes nothing.
 use mathlib.Core.Path.{refl, sym, ◌∙◌}
 use native.Mathlib.Omega.{arith}
-use borrow.Author.Rules.{rules}
 use Rattle.refusals.specs.declared.fault.Fault.TheVariants.{Order}
 use Rattle.heap.specs.Faults.{order_ok, order_fault}
 use Rattle.heap.proofs.Testing.FaultLaws.{scan, scan_goes, scan_here, scan_done, order_not}
@@ -10,21 +9,19 @@ use Rattle.heap.proofs.fault.order_fault.Goals as goal
 
 pub loop-i-init : goal.loop-i-init
 unfolding scan order_fault
-loop-i-init c = (search rules, refl)
+loop-i-init c = refl
 
 pub returns-then-before : goal.returns-then-before
 returns-then-before c =
     let h = c.args.h in
     let l = c.loop-i in
-    sym (scan_here Order (order_ok h) (omega arith) (order_not h l.i (sym c.before-in-loop-i.ensures ∙ c.if-before.true))) ∙ l.invariant.1
+    sym (scan_here Order (order_ok h) (omega arith) (order_not h l.i (sym c.before-in-loop-i.ensures ∙ c.if-before.true))) ∙ l.invariant
 
 pub loop-i-preserved : goal.loop-i-preserved
 loop-i-preserved c =
     let h = c.args.h in
-    let l = c.loop-i in (
-      omega arith,
-      scan_goes Order (order_ok h) (omega arith) (order_not h l.i (sym c.before-in-loop-i.ensures ∙ c.if-before.false)) ∙ l.invariant.1,
-    )
+    let l = c.loop-i in
+    scan_goes Order (order_ok h) (omega arith) (order_not h l.i (sym c.before-in-loop-i.ensures ∙ c.if-before.false)) ∙ l.invariant
 
 pub returns : goal.returns
-returns c = sym (scan_done Order (order_ok c.args.h) c.loop-i-test.false) ∙ c.loop-i.invariant.1
+returns c = sym (scan_done Order (order_ok c.args.h) (omega arith)) ∙ c.loop-i.invariant

@@ -1,14 +1,10 @@
 -- `fault::position_fault` is right: at each turn the scan of the positions to go finds what the whole scan finds.
 -- Assumes nothing.
 use mathlib.Core.Path.{◌≡◌}
-use Prim.Native.Nat.{◌≤◌, ◌-◌}
 use Rattle.refusals.specs.declared.fault.Fault.TheVariants.{Position}
 use Rattle.heap.specs.Faults.{position_ok, position_fault}
 use Rattle.heap.proofs.Testing.FaultLaws.{scan}
 use Rattle.heap.proofs.fault.position_fault.Given as goal
 
 abbrev pub invariant-loop-i : goal.invariant-loop-i
-invariant-loop-i l = (l.i ≤ l.h.len) × (scan Position (position_ok l.h) l.h.len l.i ≡ position_fault l.h)
-
-abbrev pub decreases-loop-i : goal.decreases-loop-i
-decreases-loop-i l = l.h.len - l.i
+invariant-loop-i l = scan Position (position_ok l.fn.h) l.fn.h.len l.i ≡ position_fault l.fn.h
