@@ -10,7 +10,7 @@ use Rattle.theory.proofs.Counting.{count_none}
 use Rattle.theory.proofs.ChainTest.{none_ok}
 use Rattle.heap.specs.Capacity.{cap}
 use Rattle.heap.proofs.Soundness.FreshSound as Heap
-use Rattle.state.specs.declared.Life.TheVariants.{Free, Live, Cancelled}
+use Rattle.state.specs.declared.Life.TheVariants.{Live, Cancelled}
 use Rattle.state.specs.declared.Timer.{Timer}
 use Rattle.state.specs.State.{no_timer, timer_at, is_waiting, fresh_of}
 use Rattle.state.specs.Faults.{waits_at, after_at}
@@ -32,16 +32,10 @@ fresh_unused p l = record { still = ap (λ (t : Timer). t.waiting) (fresh_at p l
 
 -- and none is live or cancelled
 not_live : (p w d : ℕ) → p < cap → (timer_at fresh_of p).life ≡ Live w d → ⊥
-not_live p w d l e =
-    let f : (timer_at fresh_of p).life ≡ Free = ap (λ (t : Timer). t.life) (fresh_at p l) in
-    let z : ◌≡◌ {A = ℕ} 0 1 = cc in
-    omega arith
+not_live p w d l e = cc (ap (λ (t : Timer). t.life) (fresh_at p l))
 
 not_cancelled : (p w : ℕ) → p < cap → (timer_at fresh_of p).life ≡ Cancelled w → ⊥
-not_cancelled p w l e =
-    let f : (timer_at fresh_of p).life ≡ Free = ap (λ (t : Timer). t.life) (fresh_at p l) in
-    let z : ◌≡◌ {A = ℕ} 0 1 = cc in
-    omega arith
+not_cancelled p w l e = cc (ap (λ (t : Timer). t.life) (fresh_at p l))
 
 -- the fresh set is sound
 pub fresh_sound : Sound fresh_of

@@ -8,6 +8,9 @@ use mathlib.Core.Option.{Option, none, some}
 use Prim.Native.Nat.{ℕ, zero, suc, ◌<◌, ◌≤◌}
 use native.Mathlib.Omega.{arith}
 use lib.Dec.{ltb, eqb}
+use Rattle.std.specs.Prelude as Code
+use Rattle.std.specs.Prelude.{Some, None}
+use Rattle.heap.specs.declared.Slot.{Slot}
 use Rattle.theory.proofs.Tests.{ref_lt}
 use Rattle.theory.proofs.First.{first_same}
 use Rattle.refusals.specs.declared.fault.Fault.{Fault}
@@ -27,7 +30,6 @@ use Rattle.heap.proofs.AsList.Items.{and_same}
 use Rattle.heap.proofs.Soundness.SoundFacts.{full_back}
 use Rattle.heap.proofs.Testing.Test.{consistent_sound}
 use Rattle.heap.proofs.UnusedRoom.InUseTest as HeapTest
-use Rattle.state.specs.declared.Held.{Held}
 use Rattle.state.specs.declared.Set.{Set}
 use Rattle.state.specs.State.{timer_at}
 use Rattle.state.specs.Faults.{waits_at, after_at, list_scan, entry_has, held_ok, life_ok, closed_ok, place_ok, entry_fits, entry_ok, lower, entry_scan, first_place, place_scan, fault_of, sound_of}
@@ -57,9 +59,9 @@ module _ (s : Set) (g : Heap) (r : Heap.Twins g s.heap) where
         ap (λ (y : Entry). eqb y.place.0 p) (r.same.entries i.0 (full_back s.heap sound q i m e).0)
     has_same q p m (Empty n) e = refl
 
-    held_same : (p : ℕ) (d : Held) → held_ok g p d ≡ held_ok s.heap p d
-    held_same p Held.Nothing = refl
-    held_same p (Held.At q) =
+    held_same : (p : ℕ) (d : Code.Option Slot) → held_ok g p d ≡ held_ok s.heap p d
+    held_same p None = refl
+    held_same p (Some q) =
         ap (λ (m : ℕ). ltb q.0 m && entry_has g (state_at g q.0) p) r.same.same_made
         ∙ and_same (ref_lt q.0 s.heap.made)
         (λ m. ap (λ (x : SlotState). entry_has g x p) (r.same.slots q.0 m) ∙ has_same q.0 p m (state_at s.heap q.0) refl)

@@ -1,6 +1,5 @@
 pub mod ListLaws
 pub mod ScanLaws
-pub mod FaultLaws
 pub mod PlaceTest
 pub mod Parts
 pub mod Test

@@ -5,22 +5,27 @@ use mathlib.Core.Path.{◌≡◌, refl, sym, ◌∙◌, ap, subst}
 use mathlib.Core.Bool.{Bool, true, false}
 use mathlib.Core.Option.{Option, none, some}
 use mathlib.Core.List.{List}
-use Prim.Native.Nat.{ℕ, ◌+◌, ◌<◌, ◌≤◌}
+use Prim.Native.Nat.{ℕ, zero, suc, ◌+◌, ◌<◌, ◌≤◌}
+use native.Mathlib.Numerals.{add-one}
 use native.Mathlib.Omega.{arith}
-use lib.ListN.{length, get_or, set, replicate, length-set, length-replicate, get_or-replicate}
-use lib.Seq.{get_or-set_same, get_or-set_other}
+use lib.ListN.{length, take, get_or, set, replicate, length-set, length-replicate, get_or-replicate}
+use lib.Seq.{take_all, get_or-set_same, get_or-set_other}
 use borrow.Author.Tests.{ltb-true, lt-ltb, le-ltb}
-use Rattle.theory.specs.Counting.{count}
+use Rattle.std.specs.Prelude as Code
+use Rattle.std.specs.Prelude.{Some, None, MatchOption}
+use Rattle.std.specs.List.{count_by, filter}
+use Rattle.std.proofs.lemmas.List.Sums.{length-filter, count_by_more_yes, count_by_more_no}
+use Rattle.theory.specs.Counting.{tally, count}
 use Rattle.theory.proofs.Tests.{and_left}
 use Rattle.theory.proofs.WrongTurns.{Walking, walk_starts, walk_short, walk_stranger, walk_again, walk_goes, walk_ends, walk_long}
 use Rattle.heap.specs.Capacity.{cap}
 use Rattle.heap.specs.declared.Place.{Place}
 use Rattle.state.specs.declared.Waiting.{Waiting}
 use Rattle.state.specs.declared.Waiting.TheVariants.{No, Last, Before}
-use Rattle.state.specs.declared.First.{First}
+use Rattle.state.specs.declared.Timer.{Timer}
 use Rattle.state.specs.declared.Set.{Set}
-use Rattle.state.specs.State.{timer_at, is_waiting, next_in, head_of, head_after}
-use Rattle.state.specs.Faults.{waits_at, after_at, list_scan}
+use Rattle.state.specs.State.{no_timer, timer_at, is_waiting, next_in, head_of, head_after}
+use Rattle.state.specs.Faults.{waits_at, after_at, list_scan, walked}
 
 -- who comes after a waiting timer is the head once it is taken off
 head_next : (w : Waiting) → head_of (head_after w) ≡ next_in w
@@ -28,8 +33,19 @@ head_next No = refl
 head_next Last = refl
 head_next (Before q) = refl
 
+-- the timers of a list that pass, and the numbers at which they stand
+count_listed : {X : Type 0} (test : X → Bool) (xs : List X) (d : X) (f : ℕ → Bool) (n : ℕ) → n ≤ length xs
+    → ((i : ℕ) → i < n → test (get_or xs i d) ≡ f i) → count_by test (take n xs) ≡ count f n
+unfolding count
+count_listed test xs d f zero l h = refl
+count_listed test xs d f (suc n) l h = go (f n) refl (count_listed test xs d f n (omega arith) (λ i b. h i (omega arith)))
+  where
+    go : (b : Bool) → f n ≡ b → count_by test (take n xs) ≡ count f n → count_by test (take (suc n) xs) ≡ tally b (count f n)
+    go true e r = grind (arith, r, count_by_more_yes test xs n d (omega arith) (h n (omega arith) ∙ e), add-one n)
+    go false e r = grind (arith, r, count_by_more_no test xs n d (omega arith) (h n (omega arith) ∙ e), add-one n)
+
 -- the list as a walk along it finds it: n timers wait, it has met k, stands at one or at the end and has marked those that it met
-pub record OnList (s : Set) (n k : ℕ) (at : First) (met : List Bool) : Type 0 where
+pub record OnList (s : Set) (n k : ℕ) (at : Code.Option Place) (met : List Bool) : Type 0 where
   pub many : n ≡ count (waits_at s) cap
   pub room : length met ≡ cap
   pub walk : Walking (waits_at s) (after_at s) cap (head_of s.first) k (head_of at) (λ x. get_or met x false)
@@ -39,6 +55,14 @@ module _ (s : Set) where
   pub waits_in : {p : ℕ} {b : Bool} → p < cap → is_waiting (timer_at s p).waiting ≡ b → waits_at s p ≡ b
   unfolding waits_at
   waits_in {p} l e = rw (lt-ltb p cap l) e
+
+  -- as many timers pass the test as wait
+  pub count_waiting : length s.timers ≡ cap → length (filter (λ (t : Timer). is_waiting t.waiting) s.timers) ≡ count (waits_at s) cap
+  count_waiting e =
+      let test = λ (t : Timer). is_waiting t.waiting in
+      length-filter test s.timers
+      ∙ ap (λ ts. count_by test ts) (sym (take_all cap s.timers (omega (arith, e))))
+      ∙ count_listed test s.timers no_timer (waits_at s) cap (omega (arith, e)) (λ p l. sym (waits_in l refl))
 
   -- a timer that waits is in range
   pub waits_below : (p : ℕ) → waits_at s p ≡ true → p < cap
@@ -53,36 +77,36 @@ module _ (s : Set) where
     walk = walk_starts (waits_at s) (after_at s) cap (head_of s.first) (λ x b. get_or-replicate cap x false false b);
   }
 
-  module _ {n k : ℕ} {at : First} {met : List Bool} (w : OnList s n k at met) where
+  module _ {n k : ℕ} {at : Code.Option Place} {met : List Bool} (w : OnList s n k at met) where
     -- where the list stands: at a place, or at its end
-    stands : {p : Place} → at ≡ First.At p → Walking (waits_at s) (after_at s) cap (head_of s.first) k (some p.0) (λ x. get_or met x false)
+    stands : {p : Place} → at ≡ Some p → Walking (waits_at s) (after_at s) cap (head_of s.first) k (some p.0) (λ x. get_or met x false)
     stands e = rw e at w.walk
 
-    ended : at ≡ First.Nothing → Walking (waits_at s) (after_at s) cap (head_of s.first) k none (λ x. get_or met x false)
+    ended : at ≡ None → Walking (waits_at s) (after_at s) cap (head_of s.first) k none (λ x. get_or met x false)
     ended e = rw e at w.walk
 
     -- an end with timers to come is the fault
-    pub list_short : k < n → at ≡ First.Nothing → some k ≡ list_scan s
+    pub list_short : k < n → at ≡ None → some k ≡ list_scan s
     unfolding list_scan
     list_short l e = sym (walk_short (waits_at s) (after_at s) cap _ (ended e) (omega (arith, w.many)))
 
     -- a place out of range is the fault
-    pub list_past : {p : Place} → at ≡ First.At p → cap ≤ p.0 → some k ≡ list_scan s
+    pub list_past : {p : Place} → at ≡ Some p → cap ≤ p.0 → some k ≡ list_scan s
     unfolding list_scan waits_at
     list_past {p} e g = sym (walk_stranger (waits_at s) (after_at s) cap _ (stands e) (rw (le-ltb p.0 cap g)))
 
     -- a timer that was met before is the fault
-    pub list_again : {p : Place} → at ≡ First.At p → p.0 < cap → get_or met p.0 false ≡ true → some k ≡ list_scan s
+    pub list_again : {p : Place} → at ≡ Some p → p.0 < cap → get_or met p.0 false ≡ true → some k ≡ list_scan s
     unfolding list_scan
     list_again e g m = sym (walk_again (waits_at s) (after_at s) cap _ (stands e) g m)
 
     -- a timer that does not wait is the fault
-    pub list_still : {p : Place} → at ≡ First.At p → p.0 < cap → is_waiting (timer_at s p.0).waiting ≡ false → some k ≡ list_scan s
+    pub list_still : {p : Place} → at ≡ Some p → p.0 < cap → is_waiting (timer_at s p.0).waiting ≡ false → some k ≡ list_scan s
     unfolding list_scan
     list_still e g z = sym (walk_stranger (waits_at s) (after_at s) cap _ (stands e) (waits_in g z))
 
     -- after a timer that waits and was not met the walk goes on
-    pub list_goes : {p : Place} {to : First} → k < n → at ≡ First.At p → p.0 < cap → get_or met p.0 false ≡ false
+    pub list_goes : {p : Place} {to : Code.Option Place} → k < n → at ≡ Some p → p.0 < cap → get_or met p.0 false ≡ false
         → is_waiting (timer_at s p.0).waiting ≡ true → to ≡ head_after (timer_at s p.0).waiting → OnList s n (k + 1) to (set met p.0 true)
     unfolding after_at
     list_goes {p} l e g m z t = record {
@@ -94,12 +118,13 @@ module _ (s : Set) where
           (get_or-set_same met p.0 true false (omega (arith, w.room))) (λ y d. get_or-set_other met p.0 y true false d));
     }
 
-    -- with every waiting timer met, there is no fault where the list has ended
-    pub list_ends : n ≤ k → at ≡ First.Nothing → none ≡ list_scan s
+    -- with every waiting timer met, there is no fault where the list has ended, and one where it goes on
+    pub list_ended : (o : Code.Option ℕ) → n ≤ k → MatchOption at (o ≡ None) (λ p. o ≡ Some n) → walked o ≡ list_scan s
     unfolding list_scan
-    list_ends l e = sym (walk_ends (waits_at s) (after_at s) cap _ (omega (arith, w.many, w.walk.within)) (ended e))
-
-    -- and one where it goes on
-    pub list_long : {p : Place} → n ≤ k → at ≡ First.At p → some k ≡ list_scan s
-    unfolding list_scan
-    list_long l e = sym (walk_long (waits_at s) (after_at s) cap _ (omega (arith, w.many, w.walk.within)) waits_below (stands e))
+    list_ended o l e = go at refl e
+      where
+        go : (a : Code.Option Place) → at ≡ a → MatchOption a (o ≡ None) (λ p. o ≡ Some n) → walked o ≡ list_scan s
+        go None q e = ap walked e ∙ sym (walk_ends (waits_at s) (after_at s) cap _ (omega (arith, w.many, w.walk.within)) (ended q))
+        go (Some p) q e =
+            let m : n ≡ k = omega (arith, w.many, w.walk.within) in
+            ap walked e ∙ ap some m ∙ sym (walk_long (waits_at s) (after_at s) cap _ (omega (arith, m, w.many)) waits_below (stands q))

@@ -5,6 +5,8 @@ use mathlib.Core.Bool.{Bool, true, false, not, cond, ◌&&◌, true≢false, fal
 use mathlib.Core.Option.{Option, none, some}
 use Prim.Native.Nat.{ℕ, zero, suc, ◌<◌, ◌^◌}
 use native.Mathlib.Omega.{arith}
+use Rattle.std.specs.Prelude as Code
+use Rattle.std.specs.Prelude.{Some, None}
 use Rattle.theory.specs.Tests.{Ref, holds, fails}
 use Rattle.theory.specs.Chain.{clear}
 use Rattle.theory.proofs.Tests.{ref_by, ref_lt, ref_eq, ref_and, ref_map, true_false}
@@ -21,7 +23,6 @@ use Rattle.state.specs.declared.Life.{Life}
 use Rattle.state.specs.declared.Life.TheVariants.{Free, Live, Cancelled, Retired}
 use Rattle.state.specs.declared.Waiting.{Waiting}
 use Rattle.state.specs.declared.Waiting.TheVariants.{No, Last, Before}
-use Rattle.state.specs.declared.Held.{Held}
 use Rattle.state.specs.declared.Timer.{Timer}
 use Rattle.state.specs.declared.Set.{Set}
 use Rattle.state.specs.State.{timer_at, is_waiting}
@@ -40,16 +41,16 @@ ref_off false = holds refl
 -- not waiting, and naming no slot
 pub ref_still : (w : Waiting) → Ref (w ≡ No) (not (is_waiting w))
 ref_still No = holds refl
-ref_still Last = fails (λ e. let z : ◌≡◌ {A = ℕ} 0 1 = cc in omega arith)
-ref_still (Before q) = fails (λ e. let z : ◌≡◌ {A = ℕ} 0 1 = cc in omega arith)
+ref_still Last = fails (λ e. cc)
+ref_still (Before q) = fails (λ e. cc)
 
 -- a timer that names a slot does not name none
-pub held_some : {d : Held} {q : Slot} → d ≡ Held.At q → d ≡ Held.Nothing → ⊥
-held_some e n = let z : ◌≡◌ {A = ℕ} 0 1 = cc in omega arith
+pub held_some : {d : Code.Option Slot} {q : Slot} → d ≡ Some q → d ≡ None → ⊥
+held_some e n = cc
 
-ref_bare : (d : Held) → Ref (d ≡ Held.Nothing) (is_nothing d)
-ref_bare Held.Nothing = holds refl
-ref_bare (Held.At q) = fails (held_some refl)
+ref_bare : (d : Code.Option Slot) → Ref (d ≡ None) (is_nothing d)
+ref_bare None = holds refl
+ref_bare (Some q) = fails (held_some refl)
 
 ref_idle : (t : Timer) → Ref (Unused t) (idle_in t)
 ref_idle t =
@@ -57,29 +58,29 @@ ref_idle t =
     (λ u. (u.still, u.bare))
 
 -- naming this slot
-ref_slot : (d : Held) (q : Slot) → Ref (d ≡ Held.At q) (is_slot d q.0)
-ref_slot Held.Nothing q = fails (λ e. held_some e refl)
-ref_slot (Held.At r) q =
-    ref_map (ref_eq r.0 q.0) (λ e i. Held.At (record { 0 = e i })) (λ e. let z : r ≡ q = cc in ap (λ (x : Slot). x.0) z)
+ref_slot : (d : Code.Option Slot) (q : Slot) → Ref (d ≡ Some q) (is_slot d q.0)
+ref_slot None q = fails (λ e. held_some e refl)
+ref_slot (Some r) q =
+    ref_map (ref_eq r.0 q.0) (λ e i. Some (record { 0 = e i })) (λ e. let z : r ≡ q = cc in ap (λ (x : Slot). x.0) z)
 
 -- a full slot whose entry holds the place
 ref_has : (h : Heap) (x : SlotState) (p : ℕ) → Ref ((i : Pos) × (x ≡ Full i) × ((entry_at h i.0).place.0 ≡ p)) (entry_has h x p)
 ref_has h (Full i) p =
     ref_map (ref_eq (entry_at h i.0).place.0 p) (λ e. (i, refl, e))
     (λ r. let z : r.0 ≡ i = cc in subst (λ (j : Pos). (entry_at h j.0).place.0 ≡ p) z r.2)
-ref_has h (Empty n) p = fails (λ r. let e = r.1 in let z : ◌≡◌ {A = ℕ} 0 1 = cc in omega arith)
+ref_has h (Empty n) p = fails (λ r. cc (r.1))
 
 module _ (s : Set) (p : ℕ) where
   -- the slot's entry is the timer's own
-  ref_own : (q : Slot) → Ref (Owns s p q) (held_ok s.heap p (Held.At q))
+  ref_own : (q : Slot) → Ref (Owns s p q) (held_ok s.heap p (Some q))
   ref_own q =
       ref_map (ref_and (ref_lt q.0 s.heap.made) (ref_has s.heap (state_at s.heap q.0) p))
       (λ r. record { made = r.0; where_it_stands = r.1.0; full = r.1.1; own = r.1.2 })
       (λ o. (o.made, (o.where_it_stands, o.full, o.own)))
 
-  ref_held : (d : Held) → Ref ((q : Slot) → d ≡ Held.At q → Owns s p q) (held_ok s.heap p d)
-  ref_held Held.Nothing = holds (λ q e. absurd (held_some e refl))
-  ref_held (Held.At r) = ref_map (ref_own r) (λ o q e. let z : r ≡ q = cc in subst (Owns s p) z o) (λ f. f r refl)
+  ref_held : (d : Code.Option Slot) → Ref ((q : Slot) → d ≡ Some q → Owns s p q) (held_ok s.heap p d)
+  ref_held None = holds (λ q e. absurd (held_some e refl))
+  ref_held (Some r) = ref_map (ref_own r) (λ o q e. let z : r ≡ q = cc in subst (Owns s p) z o) (λ f. f r refl)
 
 ref_life : (closed : Bool) (t : Timer) (l : Life) → Ref (Goes closed t l) (life_ok closed t l)
 ref_life c t Free = ref_idle t

@@ -8,6 +8,9 @@ use native.Mathlib.Omega.{arith}
 use lib.Dec.{ltb}
 use lib.ListN.{length}
 use borrow.Author.Tests.{ltb-true, lt-ltb}
+use Rattle.std.specs.Prelude.{Option, Some, None}
+use Rattle.heap.specs.declared.Place.{Place}
+use Rattle.heap.specs.declared.Slot.{Slot}
 use Rattle.theory.specs.Tests.{Ref}
 use Rattle.theory.specs.Chain.{chain_okb}
 use Rattle.theory.proofs.Tests.{ref_map, ref_true, true_ref, true_false, is_false, and_left, and_right}
@@ -18,8 +21,6 @@ use Rattle.heap.proofs.Soundness.SoundFacts.{full_back}
 use Rattle.state.specs.declared.Life.{Life}
 use Rattle.state.specs.declared.Life.TheVariants.{Free, Live, Cancelled, Retired}
 use Rattle.state.specs.declared.Waiting.TheVariants as Waiting
-use Rattle.state.specs.declared.Held.{Held}
-use Rattle.state.specs.declared.First.{First}
 use Rattle.state.specs.declared.Set.{Set}
 use Rattle.state.specs.State.{timer_at, is_waiting, head_of}
 use Rattle.state.specs.Faults.{waits_at, after_at, sound_of}
@@ -40,15 +41,15 @@ in_waits s p l e = rw (lt-ltb p cap l) e
 
 module _ (s : Set) where
   -- a list that begins has a timer that waits
-  no_list : list_test s ≡ true → ((p : ℕ) → waits_at s p ≡ true → ⊥) → s.first ≡ First.Nothing
+  no_list : list_test s ≡ true → ((p : ℕ) → waits_at s p ≡ true → ⊥) → s.first ≡ None
   no_list w n = go s.first w
     where
-      go : (f : First) → chain_okb (waits_at s) (after_at s) cap (head_of f) ≡ true → f ≡ First.Nothing
-      go First.Nothing w = refl
-      go (First.At p) w = absurd (n p.0 (ok_head (waits_at s) (after_at s) cap p.0 w))
+      go : (f : Option Place) → chain_okb (waits_at s) (after_at s) cap (head_of f) ≡ true → f ≡ None
+      go None w = refl
+      go (Some p) w = absurd (n p.0 (ok_head (waits_at s) (after_at s) cap p.0 w))
 
   -- the list of a set that passes and is closed is empty: none of its timers waits
-  closed_list_lem : Passed s → s.closed ≡ true → s.first ≡ First.Nothing
+  closed_list_lem : Passed s → s.closed ≡ true → s.first ≡ None
   closed_list_lem t e =
       no_list t.list
       (λ p w. let q = waits_in s p w in true_false q.1 (ap is_waiting ((t.places p q.0).idle e).still))
@@ -84,17 +85,17 @@ module _ (s : Set) where
     -- a timer of a sound set that is closed does not wait: it would be in the list
     closed_still : (p : ℕ) → p < cap → s.closed ≡ true → (timer_at s p).waiting ≡ Waiting.No
     closed_still p l e =
-        let w = subst (λ (f : First). chain_okb (waits_at s) (after_at s) cap (head_of f) ≡ true) (g.list_empty e) g.listed in
+        let w = subst (λ (f : Option Place). chain_okb (waits_at s) (after_at s) cap (head_of f) ≡ true) (g.list_empty e) g.listed in
         let n = count_zero (waits_at s) cap (ok_none (waits_at s) (after_at s) cap w) p l in
         ref_true (ref_still (timer_at s p).waiting) (ap not (is_false (is_waiting (timer_at s p).waiting) (λ t. n (in_waits s p l t))))
 
     -- nor does it name a slot: that would have an entry
-    closed_bare : (p : ℕ) → p < cap → s.closed ≡ true → (timer_at s p).held ≡ Held.Nothing
+    closed_bare : (p : ℕ) → p < cap → s.closed ≡ true → (timer_at s p).held ≡ None
     closed_bare p l e = go (timer_at s p).held refl
       where
-        go : (d : Held) → (timer_at s p).held ≡ d → d ≡ Held.Nothing
-        go Held.Nothing h = refl
-        go (Held.At q) h =
+        go : (d : Option Slot) → (timer_at s p).held ≡ d → d ≡ None
+        go None h = refl
+        go (Some q) h =
             let o = g.slot_own p q l h in
             let b = full_back s.heap g.heap_sound q.0 o.where_it_stands o.made o.full in
             let z = g.heap_empty e in

@@ -1,7 +1,8 @@
 -- The test of soundness: the first fault, its kind and where it is. The heap's four kinds come first, then the list, then the
 -- places, the lowest one at fault.
 -- Assumes nothing.
-use Rattle.std.specs.Prelude.{Bool, true, false, not, cond, ◌&&◌, ◌||◌, ℕ, zero, suc, ◌^◌, min, ltb, eqb}
+use Rattle.std.specs.Prelude.{Bool, true, false, not, cond, ◌&&◌, ◌||◌, ℕ, zero, suc, ◌^◌, min, ltb, eqb, None, Some}
+use Rattle.std.specs.Prelude as Code
 use Rattle.std.proofs.Math.Option.{Option, none, some}
 use Rattle.theory.specs.First.{first_bad}
 use Rattle.theory.specs.WrongStep.{wrong_step}
@@ -12,6 +13,8 @@ use Rattle.refusals.specs.Faults.{or_else, fault_by}
 use Rattle.heap.specs.Capacity.{cap}
 use Rattle.heap.specs.declared.Heap.{Heap}
 use Rattle.heap.specs.declared.Entry.{Entry}
+use Rattle.heap.specs.declared.Slot.{Slot}
+use Rattle.heap.specs.declared.Place as Places
 use Rattle.heap.specs.declared.SlotState.{SlotState}
 use Rattle.heap.specs.declared.SlotState.TheVariants.{Full, Empty}
 use Rattle.heap.specs.Rules.{entry_at, state_at}
@@ -19,13 +22,8 @@ use Rattle.heap.specs.Faults as Heaps
 use Rattle.word.specs.Rules.{invalid_in}
 use Rattle.state.specs.declared.Life.{Life}
 use Rattle.state.specs.declared.Life.TheVariants.{Free, Live, Cancelled, Retired}
-use Rattle.state.specs.declared.Held.{Held}
 use Rattle.state.specs.declared.Timer.{Timer}
 use Rattle.state.specs.declared.Set.{Set}
-use Rattle.state.specs.declared.fault.Walk.{Walk}
-use Rattle.state.specs.declared.fault.Walk.TheVariants as W
-use Rattle.state.specs.declared.fault.Scan.{Scan}
-use Rattle.state.specs.declared.fault.Scan.TheVariants as S
 use Rattle.state.specs.State.{timer_at, is_waiting, next_in, head_of}
 
 -- the waiting timers, and the links among them
@@ -40,13 +38,13 @@ after_at s p = next_in (timer_at s p).waiting
 unfoldable pub list_scan : Set → Option ℕ
 list_scan s = wrong_step (waits_at s) (after_at s) cap (head_of s.first)
 
-abbrev pub is_nothing : Held → Bool
-is_nothing Held.Nothing = true
-is_nothing (Held.At q) = false
+abbrev pub is_nothing : Code.Option Slot → Bool
+is_nothing None = true
+is_nothing (Some q) = false
 
-abbrev pub is_slot : Held → ℕ → Bool
-is_slot Held.Nothing q = false
-is_slot (Held.At r) q = eqb r.0 q
+abbrev pub is_slot : Code.Option Slot → ℕ → Bool
+is_slot None q = false
+is_slot (Some r) q = eqb r.0 q
 
 -- a full slot, whose entry holds the place
 abbrev pub entry_has : Heap → SlotState → ℕ → Bool
@@ -54,9 +52,9 @@ entry_has h (Full i) p = eqb (entry_at h i.0).place.0 p
 entry_has h (Empty n) p = false
 
 -- the slot that a timer names was made, and its entry is the timer's own
-abbrev pub held_ok : Heap → ℕ → Held → Bool
-held_ok h p Held.Nothing = true
-held_ok h p (Held.At q) = ltb q.0 h.made && entry_has h (state_at h q.0) p
+abbrev pub held_ok : Heap → ℕ → Code.Option Slot → Bool
+held_ok h p None = true
+held_ok h p (Some q) = ltb q.0 h.made && entry_has h (state_at h q.0) p
 
 -- neither waiting nor naming a slot
 abbrev pub idle_in : Timer → Bool
@@ -80,7 +78,7 @@ place_ok s p =
     && (closed_ok s.closed (timer_at s p) && held_ok s.heap p (timer_at s p).held)
 
 -- an entry's generation is in range, and its place, which holds that, names its slot
-abbrev pub entry_fits : Entry → Held → Bool
+abbrev pub entry_fits : Entry → Code.Option Slot → Bool
 entry_fits e d = ltb e.generation (2 ^ 30) && is_slot d e.slot.0
 
 -- and its place is in range
@@ -108,13 +106,13 @@ unfoldable pub place_scan : Set → Option ℕ
 place_scan s = lower (first_place s) (entry_scan s s.heap.len)
 
 -- what the code's walk along the list finds, and its scans of places
-abbrev pub walked : Walk → Option ℕ
-walked W.Fine = none
-walked (W.At k) = some k
+abbrev pub walked : Code.Option ℕ → Option ℕ
+walked None = none
+walked (Some k) = some k
 
-abbrev pub scanned : Scan → Option ℕ
-scanned S.Fine = none
-scanned (S.At p) = some p.0
+abbrev pub scanned : Code.Option Places.Place → Option ℕ
+scanned None = none
+scanned (Some p) = some p.0
 
 -- the first fault of all: the heap's, then that of the list, then that of the places
 unfoldable pub fault_of : Set → Option Fault

@@ -1,13 +1,12 @@
 -- A handle as the word that stands for it in a report list, the way back from a word to the handle that it names, and how handles are
 -- told apart.
 -- Assumes nothing.
-use Rattle.std.specs.Prelude.{◌≡◌, cond, ℕ, ◌+◌, ◌*◌, ◌/◌, ◌%◌, ◌^◌, eqb}
+use Rattle.std.specs.Prelude.{◌≡◌, cond, ℕ, ◌+◌, ◌*◌, ◌/◌, ◌%◌, ◌^◌, eqb, None, Some}
+use Rattle.std.specs.Prelude as Code
 use Rattle.std.proofs.Common.{ap}
 use Rattle.std.proofs.Math.Option.{Option, none, some}
 use Rattle.std.proofs.Math.Decide.{ℕ_discrete}
 use Rattle.state.specs.declared.Handle.{Handle}
-use Rattle.state.specs.declared.Named.{Named}
-use Rattle.state.specs.declared.Named.TheVariants as N
 
 -- a handle as one word: use number 32 bits, 16 zero bits, place 16, most significant first
 abbrev pub handle_word : Handle → ℕ
@@ -19,9 +18,9 @@ abbrev pub named_by : ℕ → Option Handle
 named_by w = cond (eqb (w / 2 ^ 16 % 2 ^ 16) 0) (some (record { place = record { 0 = w % 2 ^ 16 }; uses = w / 2 ^ 32 })) none
 
 -- what the code says of a word
-abbrev pub said_named : Named → Option Handle
-said_named N.Nobody = none
-said_named (N.Handle h) = some h
+abbrev pub said_named : Code.Option Handle → Option Handle
+said_named None = none
+said_named (Some h) = some h
 
 both : (h k : Handle) → Dec (h.place.0 ≡ k.place.0) → Dec (h.uses ≡ k.uses) → Dec (h ≡ k)
 both h k (yes p) (yes u) = yes (λ i. record { place = record { 0 = p i }; uses = u i })

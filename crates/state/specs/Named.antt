@@ -1,7 +1,7 @@
 -- WHAT A NAMED FAULT OF A SET MEANS: every kind before it is in order, of its own kind nothing lower is at fault, and what is named
 -- is (proofs/FirstFault.antt). On the clauses of Sound.antt, and not on the scans that find it.
 -- Assumes nothing.
-use Rattle.std.specs.Prelude.{◌≡◌, ◌⊎◌, Bool, true, false, ℕ, ◌<◌, ◌^◌}
+use Rattle.std.specs.Prelude.{◌≡◌, ◌⊎◌, Bool, true, false, ℕ, ◌<◌, ◌^◌, Some}
 use Rattle.theory.specs.Chain.{chain_okb}
 use Rattle.theory.specs.WrongStep.{WrongAt}
 use Rattle.refusals.specs.declared.fault.Fault.{Fault}
@@ -14,7 +14,6 @@ use Rattle.heap.specs.Named as HeapNamed
 use Rattle.word.specs.Rules.{invalid_in}
 use Rattle.state.specs.declared.Life.{Life}
 use Rattle.state.specs.declared.Life.TheVariants.{Free, Live, Cancelled, Retired}
-use Rattle.state.specs.declared.Held.TheVariants as Held
 use Rattle.state.specs.declared.Timer.{Timer}
 use Rattle.state.specs.declared.Set.{Set}
 use Rattle.state.specs.State.{timer_at, is_waiting, head_of}
@@ -33,13 +32,13 @@ Goes closed t Retired = Unused t
 pub record PlaceRight (s : Set) (p : ℕ) : Type 0 where
   pub goes : Goes s.closed (timer_at s p) (timer_at s p).life
   pub idle : s.closed ≡ true → Unused (timer_at s p)
-  pub owns : (q : Slot) → (timer_at s p).held ≡ Held.At q → Owns s p q
+  pub owns : (q : Slot) → (timer_at s p).held ≡ Some q → Owns s p q
 
 -- an entry is in order: its place and its generation are in range, and its place names its slot
 pub record EntryRight (s : Set) (i : ℕ) : Type 0 where
   pub place : (entry_at s.heap i).place.0 < cap
   pub generation : (entry_at s.heap i).generation < 2 ^ 30
-  pub own : (timer_at s (entry_at s.heap i).place.0).held ≡ Held.At (entry_at s.heap i).slot
+  pub own : (timer_at s (entry_at s.heap i).place.0).held ≡ Some (entry_at s.heap i).slot
 
 -- something is wrong at a place: with it by itself, or with an entry that holds its number, however large
 abbrev pub WrongPlace : Set → ℕ → Type 0

@@ -7,43 +7,25 @@ ghost use Rattle.heap.specs.Sound as HeapSound;
 ghost use Rattle.state.specs.Faults.{waits_at, list_scan, lower as lowerOf, idle_in, life_ok, closed_ok, entry_fits, first_place, entry_scan, walked, scanned};
 ghost use Rattle.state.specs.Promises.{Faults, Waits, Follows};
 
-use crate::{First, Held, Life, Set, Timer, Waiting};
-use heap::{Entry, Place, SlotState};
-use refusals::fault::{Fault, Verdict};
+use crate::{Life, Set, Timer, Waiting};
+use heap::{Entry, Place, Slot, SlotState};
+use refusals::fault::Fault;
 
-// How many generations there are: 2^30.
-const GENERATIONS: u32 = 1_073_741_824;
-
-// What the walk along the waiting list finds: the step at which it goes wrong.
-#[derive(Clone, Copy)]
-pub enum Walk {
-    Fine,
-    At(usize),
-}
-
-// What a scan of places finds.
-#[derive(Clone, Copy)]
-pub enum Scan {
-    Fine,
-    At(Place),
-}
+// How many generations there are.
+const GENERATIONS: u32 = 1 << 30;
 
 // The first fault of a set, in the order of the kinds.
-pub fn first_fault(s: Set) -> Verdict
+pub fn first_fault(s: Set) -> Result<(), Fault>
     ensures { Faults s result }
 {
-    let h = s.heap;
-    let f = heap::fault::first_fault(h);
-    let Verdict::Sound = f else {
-        return f;
-    };
+    heap::fault::first_fault(s.heap)?;
     let n = waiting_count(s);
-    if let Walk::At(k) = list_scan(s, n) {
-        return Verdict::Broken(Fault::List(k as u64));
+    if let Some(step) = list_scan(s, n) {
+        return Err(Fault::List(step as u64));
     }
     match lower(place_scan(s), entry_scan(s)) {
-        Scan::Fine => Verdict::Sound,
-        Scan::At(p) => Verdict::Broken(Fault::Place(p.0 as u64)),
+        None => Ok(()),
+        Some(place) => Err(Fault::Place(place.0 as u64)),
     }
 }
 
@@ -51,21 +33,16 @@ pub fn first_fault(s: Set) -> Verdict
 pub fn waits(w: Waiting) -> bool
     ensures { Waits w result }
 {
-    match w {
-        Waiting::No => false,
-        Waiting::Last => true,
-        Waiting::Before(_) => true,
-    }
+    w != Waiting::No
 }
 
 // The head of the list once a timer that waits so is taken off it.
-pub fn after(w: Waiting) -> First
+pub fn after(w: Waiting) -> Option<Place>
     ensures { Follows w result }
 {
     match w {
-        Waiting::No => First::Nothing,
-        Waiting::Last => First::Nothing,
-        Waiting::Before(q) => First::At(q),
+        Waiting::No | Waiting::Last => None,
+        Waiting::Before(next) => Some(next),
     }
 }
 
@@ -73,108 +50,57 @@ pub fn after(w: Waiting) -> First
 fn waiting_count(s: Set) -> usize
     ensures { result ≡ count (waits_at s) cap }
 {
-    let mut n: usize = 0;
-    let mut p: usize = 0;
-    while p < heap::CAP {
-        let t = s.timers[p];
-        let w = t.waiting;
-        if waits(w) {
-            n += 1;
-        }
-        p += 1;
-    }
-    n
+    s.timers.iter().filter(|t| waits(t.waiting)).count()
 }
 
 // The first step at which the waiting list meets a place out of range, a timer that does not wait or one that was met before, ends
 // too soon, or goes on too long, where n wait. It marks the places that it meets: a loop is noticed where it closes. The caller counts
 // the timers, so that the copies of the set for the count and for the walk do not lie on the stack at once.
-fn list_scan(s: Set, n: usize) -> Walk
+fn list_scan(s: Set, n: usize) -> Option<usize>
     requires { n ≡ count (waits_at s) cap }
     ensures { walked result ≡ list_scan s }
 {
     let mut met = [false; heap::CAP];
-    let mut step: usize = 0;
     let mut at = s.first;
-    while step < n {
-        let First::At(place) = at else {
-            return Walk::At(step);
+    for step in 0..n {
+        let Some(place) = at else {
+            return Some(step);
         };
         let p = place.0 as usize;
-        if heap::CAP <= p {
-            return Walk::At(step);
-        }
-        if met[p] {
-            return Walk::At(step);
-        }
-        let t = s.timers[p];
-        let w = t.waiting;
-        if !waits(w) {
-            return Walk::At(step);
+        if heap::CAP <= p || met[p] || !waits(s.timers[p].waiting) {
+            return Some(step);
         }
         met[p] = true;
-        at = after(w);
-        step += 1;
+        at = after(s.timers[p].waiting);
     }
-    if let First::Nothing = at {
-        Walk::Fine
-    } else {
-        Walk::At(step)
-    }
+    at.map(|_| n)
 }
 
 // The lower of two places at fault.
-fn lower(a: Scan, b: Scan) -> Scan
+fn lower(a: Option<Place>, b: Option<Place>) -> Option<Place>
     ensures { scanned result ≡ lowerOf (scanned a) (scanned b) }
 {
-    let Scan::At(p) = a else {
-        return b;
-    };
-    let Scan::At(q) = b else {
-        return a;
-    };
-    if p.0 <= q.0 { a } else { b }
+    match (a, b) {
+        (Some(p), Some(q)) => Some(p.min(q)),
+        _ => a.or(b),
+    }
 }
 
 // Whether a timer neither waits nor names a slot.
 fn idle(t: Timer) -> bool
     ensures { result ≡ idle_in t }
 {
-    let w = t.waiting;
-    if waits(w) {
-        return false;
-    }
-    let d = t.held;
-    match d {
-        Held::Nothing => true,
-        Held::At(_) => false,
-    }
+    !waits(t.waiting) && t.held.is_none()
 }
 
 // Whether a timer's parts go together, by whose place it is.
 fn life_ok(closed: bool, t: Timer) -> bool
     ensures { result ≡ life_ok closed t t.life }
 {
-    let l = t.life;
-    let w = t.waiting;
-    match l {
-        Life::Free => idle(t),
-        Life::Live { word, due: _ } => {
-            if closed {
-                return true;
-            }
-            !word::invalid(word)
-        }
-        Life::Cancelled { word } => {
-            if closed {
-                return true;
-            }
-            if word::invalid(word) {
-                return false;
-            }
-            waits(w)
-        }
-        Life::Retired => idle(t),
+    match t.life {
+        Life::Free | Life::Retired => idle(t),
+        Life::Live { word, .. } => closed || !word::invalid(word),
+        Life::Cancelled { word } => closed || !word::invalid(word) && waits(t.waiting),
     }
 }
 
@@ -182,87 +108,56 @@ fn life_ok(closed: bool, t: Timer) -> bool
 fn timer_ok(closed: bool, t: Timer) -> bool
     ensures { result ≡ life_ok closed t t.life && closed_ok closed t }
 {
-    if !life_ok(closed, t) {
-        return false;
-    }
-    if closed {
-        return idle(t);
-    }
-    true
+    life_ok(closed, t) && (!closed || idle(t))
 }
 
 // The first place whose timer's parts do not go together, that waits or names a slot in a closed set, or that names a slot whose
 // entry is not its own.
-fn place_scan(s: Set) -> Scan
+fn place_scan(s: Set) -> Option<Place>
     requires { HeapSound.Sound s.heap }
     ensures { scanned result ≡ first_place s }
 {
-    let h = s.heap;
-    let closed = s.closed;
-    let mut p: usize = 0;
-    while p < heap::CAP {
+    for (p, t) in s.timers.iter().enumerate() {
         let place = Place(p as u16);
-        let t = s.timers[p];
-        if !timer_ok(closed, t) {
-            return Scan::At(place);
+        if !timer_ok(s.closed, *t) {
+            return Some(place);
         }
-        let d = t.held;
-        if let Held::At(slot) = d {
+        if let Some(slot) = t.held {
             let q = slot.0 as usize;
-            if h.made <= q {
-                return Scan::At(place);
+            if s.heap.made <= q {
+                return Some(place);
             }
-            let x = h.slots[q];
-            let st = x.state;
-            let SlotState::Full(pos) = st else {
-                return Scan::At(place);
+            let state = s.heap.slots[q].state;
+            let SlotState::Full(pos) = state else {
+                return Some(place);
             };
-            let i = pos.0 as usize;
-            let e = h.entries[i];
-            if e.place.0 != place.0 {
-                return Scan::At(place);
+            let e = s.heap.entries[pos.0 as usize];
+            if e.place != place {
+                return Some(place);
             }
         }
-        p += 1;
     }
-    Scan::Fine
+    None
 }
 
 // Whether an entry's generation is in range, and its place, which holds that, names its slot.
-fn entry_ok(e: Entry, held: Held) -> bool
+fn entry_ok(e: Entry, held: Option<Slot>) -> bool
     ensures { result ≡ entry_fits e held }
 {
-    if GENERATIONS <= e.generation {
-        return false;
-    }
-    match held {
-        Held::Nothing => false,
-        Held::At(slot) => slot.0 == e.slot.0,
-    }
+    e.generation < GENERATIONS && held == Some(e.slot)
 }
 
 // The lowest place number of an entry that holds a place or a generation out of range, or whose place does not name its slot.
-fn entry_scan(s: Set) -> Scan
+fn entry_scan(s: Set) -> Option<Place>
     requires { HeapSound.Sound s.heap }
     ensures { scanned result ≡ entry_scan s s.heap.len }
 {
-    let h = s.heap;
-    let mut low = Scan::Fine;
-    let mut i: usize = 0;
-    while i < h.len {
-        let e = h.entries[i];
-        let place = e.place;
-        let p = place.0 as usize;
-        if heap::CAP <= p {
-            low = lower(low, Scan::At(place));
-        } else {
-            let t = s.timers[p];
-            let d = t.held;
-            if !entry_ok(e, d) {
-                low = lower(low, Scan::At(place));
-            }
+    let mut low = None;
+    for e in &s.heap.entries[..s.heap.len] {
+        let p = e.place.0 as usize;
+        if heap::CAP <= p || !entry_ok(*e, s.timers[p].held) {
+            low = lower(low, Some(e.place));
         }
-        i += 1;
     }
     low
 }

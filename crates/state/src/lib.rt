@@ -10,7 +10,6 @@ pub mod fault;
 ghost use Rattle.state.specs.Promises.{Fresh, IsSound, Words, Names};
 
 use heap::{Heap, Place, Slot};
-use refusals::fault::Verdict;
 
 // Whose place it is.
 #[derive(Clone, Copy)]
@@ -26,72 +25,52 @@ pub enum Life {
 }
 
 // Whether the timer is in the waiting list, and who comes after it there.
-#[derive(Clone, Copy)]
+#[derive(Clone, Copy, PartialEq, Eq)]
 pub enum Waiting {
     No,
     Last,
     Before(Place),
 }
 
-// The heap slot of the timer's entry.
-#[derive(Clone, Copy)]
-pub enum Held {
-    Nothing,
-    At(Slot),
-}
-
 #[derive(Clone, Copy)]
 pub struct Timer {
     pub life: Life,
     pub waiting: Waiting,
-    pub held: Held,
+    // the heap slot of the timer's entry
+    pub held: Option<Slot>,
     pub uses: u32,
-}
-
-// The head of the waiting list.
-#[derive(Clone, Copy)]
-pub enum First {
-    Nothing,
-    At(Place),
 }
 
 #[derive(Clone, Copy)]
 pub struct Set {
     pub heap: Heap,
     pub timers: [Timer; heap::CAP],
-    pub first: First,
+    // the head of the waiting list
+    pub first: Option<Place>,
     pub closed: bool,
 }
 
 // A timer's handle: its place, and the place's use number when it was added.
-#[derive(Clone, Copy)]
+#[derive(Clone, Copy, PartialEq, Eq)]
 pub struct Handle {
     pub place: Place,
     pub uses: u32,
-}
-
-// Whom a word names.
-#[derive(Clone, Copy)]
-pub enum Named {
-    Nobody,
-    Handle(Handle),
 }
 
 // The fresh set: open, with every place free.
 pub fn fresh() -> Set
     ensures { Fresh result }
 {
-    let t = Timer {
+    let unused = Timer {
         life: Life::Free,
         waiting: Waiting::No,
-        held: Held::Nothing,
+        held: None,
         uses: 0,
     };
-    let h = heap::fresh();
     Set {
-        heap: h,
-        timers: [t; heap::CAP],
-        first: First::Nothing,
+        heap: heap::fresh(),
+        timers: [unused; heap::CAP],
+        first: None,
         closed: false,
     }
 }
@@ -100,8 +79,7 @@ pub fn fresh() -> Set
 pub fn sound(s: Set) -> bool
     ensures { IsSound s result }
 {
-    let f = fault::first_fault(s);
-    if let Verdict::Sound = f { true } else { false }
+    fault::first_fault(s).is_ok()
 }
 
 // A handle as one word: the use number in the upper 32 bits, then 16 zero bits, then the place.
@@ -111,14 +89,14 @@ pub fn handle_word(handle: Handle) -> u64
     ((handle.uses as u64) << 32) | (handle.place.0 as u64)
 }
 
-// The way back: the handle whose word this is, or nobody where one of the 16 zero bits is set.
-pub fn handle_of(word: u64) -> Named
+// The way back: the handle whose word this is, or none where one of the 16 zero bits is set.
+pub fn handle_of(word: u64) -> Option<Handle>
     ensures { Names word result }
 {
     if (word >> 16) & 0xffff != 0 {
-        return Named::Nobody;
+        return None;
     }
-    Named::Handle(Handle {
+    Some(Handle {
         place: Place((word & 0xffff) as u16),
         uses: (word >> 32) as u32,
     })

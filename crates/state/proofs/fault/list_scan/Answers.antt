@@ -4,9 +4,10 @@
 -- Assumes nothing.
 use mathlib.Core.Path.{sym, ◌∙◌}
 use native.Mathlib.Omega.{arith}
-use borrow.Author.Tests.{not-true, not-false}
-use Rattle.state.proofs.ListLaws.{list_starts, list_short, list_past, list_again, list_still, list_goes, list_ends, list_long}
+use borrow.Author.Rules.{rules}
+use Rattle.state.proofs.ListLaws.{list_starts, list_short, list_past, list_again, list_still, list_goes, list_ended}
 use Rattle.state.proofs.fault.list_scan.Goals as goal
+use Rattle.state.proofs.fault.list_scan.Goals.{then-p-ge-CAP-via-then-p-ge-CAP, then-p-ge-CAP-via-else-p-ge-CAP+then-met-p, then-p-ge-CAP-via-else-p-ge-CAP+else-met-p+then-not-waits}
 
 pub loop-step-init : goal.loop-step-init
 loop-step-init c = list_starts c.args.s c.requires
@@ -15,23 +16,20 @@ pub returns-in_default : goal.returns-in_default
 returns-in_default c = list_short c.args.s c.loop-step.invariant (omega arith) c.in_default.is
 
 pub returns-then-p-ge-CAP : goal.returns-then-p-ge-CAP
-returns-then-p-ge-CAP c = list_past c.args.s c.loop-step.invariant c.in-At.is c.if-p-ge-CAP.true
-
-pub returns-then-met-p : goal.returns-then-met-p
-returns-then-met-p c = list_again c.args.s c.loop-step.invariant c.in-At.is c.if-p-ge-CAP.false c.if-met-p.true
-
-pub returns-then-not-waits : goal.returns-then-not-waits
-returns-then-not-waits c =
-    list_still c.args.s c.loop-step.invariant c.in-At.is c.if-p-ge-CAP.false
-    (sym c.waits.ensures ∙ not-true _ c.if-not-waits.true-raw)
+returns-then-p-ge-CAP c =
+    let s = c.args.s in
+    let w = c.loop-step.invariant in
+    elim c.then-p-ge-CAP.branch [
+      | then-p-ge-CAP-via-then-p-ge-CAP v ↦ list_past s w c.in-Some.is v.if-p-ge-CAP.true
+      | then-p-ge-CAP-via-else-p-ge-CAP+then-met-p v ↦ list_again s w c.in-Some.is v.if-p-ge-CAP.false v.if-met-p.true
+      | then-p-ge-CAP-via-else-p-ge-CAP+else-met-p+then-not-waits v ↦
+          list_still s w c.in-Some.is v.if-p-ge-CAP.false (sym v.waits.ensures ∙ v.if-not-waits.true)
+    ]
 
 pub loop-step-preserved : goal.loop-step-preserved
 loop-step-preserved c =
-    list_goes c.args.s c.loop-step.invariant (omega arith) c.in-At.is c.if-p-ge-CAP.false c.if-met-p.false
-    (sym c.waits.ensures ∙ not-false _ c.if-not-waits.false-raw) c.after-at.ensures
+    list_goes c.args.s c.loop-step.invariant (omega arith) c.in-Some.is c.if-p-ge-CAP.false c.if-met-p.false
+    (sym c.waits.ensures ∙ c.if-not-waits.false) c.after-at.ensures
 
-pub returns-in-Nothing : goal.returns-in-Nothing
-returns-in-Nothing c = list_ends c.args.s c.loop-step.invariant (omega arith) c.in-Nothing.is
-
-pub returns-in_default-at : goal.returns-in_default-at
-returns-in_default-at c = list_long c.args.s c.loop-step.invariant (omega arith) c.in_default-at.is
+pub returns : goal.returns
+returns c = list_ended c.args.s c.loop-step.invariant _ (omega arith) (search rules)

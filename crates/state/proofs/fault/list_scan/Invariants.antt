@@ -2,12 +2,8 @@
 -- goes wrong at no step behind it. There are as many to meet as wait, which its caller has counted; once all were met, whatever comes
 -- is out of range, does not wait or was met before.
 -- Assumes nothing.
-use Prim.Native.Nat.{◌-◌}
 use Rattle.state.proofs.ListLaws.{OnList}
 use Rattle.state.proofs.fault.list_scan.Given as goal
 
 abbrev pub invariant-loop-step : goal.invariant-loop-step
 invariant-loop-step l = OnList l.s l.n l.step l.at l.met
-
-abbrev pub decreases-loop-step : goal.decreases-loop-step
-decreases-loop-step l = l.n - l.step

@@ -1,23 +1,18 @@
--- `fault::waiting_count` is right: after p places the number is the count of the waiting timers below p.
+-- `fault::waiting_count` is right: as many timers as pass the test are counted, and they are those that wait.
 -- Assumes nothing.
-use mathlib.Core.Path.{refl, sym, ◌∙◌}
-use native.Mathlib.Omega.{arith}
-use Rattle.theory.specs.Counting.{count}
-use Rattle.theory.proofs.Counting.{count_yes, count_no}
-use Rattle.state.specs.Faults.{waits_at}
-use Rattle.state.proofs.ListLaws.{waits_in}
+use mathlib.Core.Path.{◌∙◌}
+use Rattle.std.proofs.Common.{rules, tests}
+use Rattle.std.proofs.lemmas.Iterator.{YieldsList-from_slice}
+use Rattle.std.proofs.lemmas.Iterator.Consumers.{YieldsList-from_filter, count_from_yields_List}
+use Rattle.theory.proofs.Stores.{unmapped}
+use Rattle.state.specs.declared.Timer.{Timer}
+use Rattle.state.specs.State.{is_waiting}
+use Rattle.state.proofs.ListLaws.{count_waiting}
 use Rattle.state.proofs.fault.waiting_count.Goals as goal
-use Rattle.state.proofs.fault.waiting_count.Goals.{then-waits, else-waits}
 
-pub loop-p-init : goal.loop-p-init
-unfolding count
-loop-p-init c = (omega arith, omega arith, refl)
-
-pub loop-p-preserved : goal.loop-p-preserved
-loop-p-preserved c =
+pub returns : goal.returns
+returns c =
     let s = c.args.s in
-    let p = c.loop-p.p in
-    elim c.if-waits.branch [
-      | then-waits w ↦ (omega arith, omega arith, omega (arith, w.n-is, count_yes (waits_at s) p (waits_in s c.loop-p-test.true (sym c.waits.ensures ∙ w.if-waits.true))))
-      | else-waits w ↦ (omega arith, omega arith, omega (arith, w.n-is, count_no (waits_at s) p (waits_in s c.loop-p-test.true (sym c.waits.ensures ∙ w.if-waits.false))))
-    ]
+    count_from_yields_List c.filter.result _ c.count.ensures.ran
+    (YieldsList-from_filter _ (λ (t : Timer). is_waiting t.waiting) (YieldsList-from_slice s.timers cc) c.filter.ensures.closure (λ x b q k. search (rules, tests)))
+    ∙ count_waiting s (search (rules, unmapped))
