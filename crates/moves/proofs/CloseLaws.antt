@@ -1,18 +1,16 @@
 -- A close, turn by turn: one timer off the list, one entry off the heap, where each walk ends, and what they keep.
 -- Assumes nothing.
 use mathlib.Core.Path.{◌≡◌, refl, ap, ◌∙◌}
-use Prim.Native.Nat.{ℕ, zero, suc, ◌-◌, ◌<◌, ◌≤◌}
-use native.Mathlib.Omega.{arith}
+use Prim.Native.Nat.{ℕ, zero, suc, ◌≤◌}
 use lib.ListN.{length, length-set, get_or-eq_default}
 use lib.Seq.{set_out}
+use Rattle.std.specs.Prelude.{Option, Some, None}
 use Rattle.heap.specs.declared.Place.{Place}
 use Rattle.heap.specs.Rules.{entry_at}
 use Rattle.heap.specs.Sound.{Sound}
 use Rattle.heap.specs.Calls.{pop_sound}
 use Rattle.heap.proofs.Soundness.SoundKept.{pop_sound_lem}
 use Rattle.state.specs.declared.Waiting.TheVariants.{No}
-use Rattle.state.specs.declared.Held.TheVariants as Held
-use Rattle.state.specs.declared.First.{First}
 use Rattle.state.specs.declared.Set.{Set}
 use Rattle.state.specs.State.{no_timer}
 use Rattle.moves.specs.Rules.{with_heap, with_first, list_turn, marked_life, unlisted_of, unlist_from, popped_of, empty_from}
@@ -20,18 +18,15 @@ use Rattle.moves.specs.Rules.{with_heap, with_first, list_turn, marked_life, unl
 -- THE LIST
 
 -- the timer at the head is taken off, and one turn fewer is left
-pub unlist_goes : (n : ℕ) (s : Set) (p : Place) → 0 < n → s.first ≡ First.At p → unlist_from n s ≡ unlist_from (n - 1) (unlisted_of s p.0)
+pub unlist_goes : (k : ℕ) (s : Set) (p : Place) → s.first ≡ Some p → unlist_from (suc k) s ≡ unlist_from k (unlisted_of s p.0)
 unfolding unlist_from
-unlist_goes zero s p b e = absurd (omega arith)
-unlist_goes (suc k) s p b e =
-    let m : k ≡ suc k - 1 = omega arith in
-    ap (λ (f : First). list_turn s f (λ q. unlist_from k (unlisted_of s q))) e ∙ ap (λ (j : ℕ). unlist_from j (unlisted_of s p.0)) m
+unlist_goes k s p e = ap (λ (f : Option Place). list_turn s f (λ q. unlist_from k (unlisted_of s q))) e
 
 -- at the end of the list nothing more is done
-pub unlist_ends : (n : ℕ) (s : Set) → s.first ≡ First.Nothing → unlist_from n s ≡ s
+pub unlist_ends : (n : ℕ) (s : Set) → s.first ≡ None → unlist_from n s ≡ s
 unfolding unlist_from
 unlist_ends zero s e = refl
-unlist_ends (suc k) s e = ap (λ (f : First). list_turn s f (λ q. unlist_from k (unlisted_of s q))) e
+unlist_ends (suc k) s e = ap (λ (f : Option Place). list_turn s f (λ q. unlist_from k (unlisted_of s q))) e
 
 -- nor where no turn is left
 pub unlist_done : {n : ℕ} (s : Set) → n ≡ 0 → unlist_from n s ≡ s
@@ -39,15 +34,15 @@ unfolding unlist_from
 unlist_done s e = rw e
 
 -- a place out of range ends the list, and nothing is stored
-unlisted_out : (s : Set) (p : ℕ) → length s.timers ≤ p → unlisted_of s p ≡ with_first s First.Nothing
+unlisted_out : (s : Set) (p : ℕ) → length s.timers ≤ p → unlisted_of s p ≡ with_first s None
 unfolding unlisted_of
 unlisted_out s p b =
-    rw (get_or-eq_default s.timers no_timer b, set_out s.timers p (record { life = marked_life no_timer.life; waiting = No; held = Held.Nothing; uses = 0 }) b)
+    rw (get_or-eq_default s.timers no_timer b, set_out s.timers p (record { life = marked_life no_timer.life; waiting = No; held = None; uses = 0 }) b)
 
 -- so the walk along the list stops there
-pub unlist_out : (n : ℕ) (s : Set) (p : Place) → 0 < n → s.first ≡ First.At p → length s.timers ≤ p.0 → unlist_from n s ≡ with_first s First.Nothing
-unlist_out n s p b e o =
-    unlist_goes n s p b e ∙ ap (unlist_from (n - 1)) (unlisted_out s p.0 o) ∙ unlist_ends (n - 1) (with_first s First.Nothing) refl
+pub unlist_out : (k : ℕ) (s : Set) (p : Place) → s.first ≡ Some p → length s.timers ≤ p.0 → unlist_from (suc k) s ≡ with_first s None
+unlist_out k s p e o =
+    unlist_goes k s p e ∙ ap (unlist_from k) (unlisted_out s p.0 o) ∙ unlist_ends k (with_first s None) refl
 
 -- what taking a timer off keeps, emptying the list keeps
 unlist_keeps : (P : Set → Type 0) → ((s : Set) (p : ℕ) → P s → P (unlisted_of s p)) → (n : ℕ) (s : Set) → P s → P (unlist_from n s)
@@ -55,9 +50,9 @@ unfolding unlist_from
 unlist_keeps P step zero s x = x
 unlist_keeps P step (suc k) s x = go s.first (λ p. unlist_keeps P step k (unlisted_of s p) (step s p x))
   where
-    go : (f : First) → ((p : ℕ) → P (unlist_from k (unlisted_of s p))) → P (list_turn s f (λ p. unlist_from k (unlisted_of s p)))
-    go First.Nothing h = x
-    go (First.At p) h = h p.0
+    go : (f : Option Place) → ((p : ℕ) → P (unlist_from k (unlisted_of s p))) → P (list_turn s f (λ p. unlist_from k (unlisted_of s p)))
+    go None h = x
+    go (Some p) h = h p.0
 
 -- the heap is left as it is
 pub unlist_heap : (n : ℕ) (s : Set) → (unlist_from n s).heap ≡ s.heap
@@ -67,10 +62,9 @@ unlist_heap n s = unlist_keeps (λ x. x.heap ≡ s.heap) (λ x p e. e) n s refl
 -- THE HEAP
 
 -- the head is popped, and one turn fewer is left
-pub empty_goes : (n : ℕ) (s : Set) → 0 < n → empty_from n s ≡ empty_from (n - 1) (popped_of s)
+pub empty_goes : (k : ℕ) (s : Set) → empty_from (suc k) s ≡ empty_from k (popped_of s)
 unfolding empty_from
-empty_goes zero s b = absurd (omega arith)
-empty_goes (suc k) s b = let m : k ≡ suc k - 1 = omega arith in ap (λ (j : ℕ). empty_from j (popped_of s)) m
+empty_goes k s = refl
 
 -- with no turn left nothing more is done
 pub empty_done : {n : ℕ} (s : Set) → n ≡ 0 → empty_from n s ≡ s

@@ -9,6 +9,7 @@ use native.Mathlib.Omega.{arith}
 use lib.ListN.{length, get_or-eq_default}
 use lib.Seq.{set_out}
 use denote.Enum.Declared.{tag_of}
+use Rattle.std.specs.Prelude.{Option, Some, None}
 use Rattle.refusals.specs.Answer.{Outcome}
 use Rattle.heap.specs.declared.Slot.{Slot}
 use Rattle.heap.specs.declared.Heap.{Heap}
@@ -21,17 +22,15 @@ use Rattle.state.specs.declared.Life.{Life}
 use Rattle.state.specs.contracts.Life.{the_type}
 use Rattle.state.specs.declared.Life.TheVariants.{Free, Live, Cancelled, Retired}
 use Rattle.state.specs.declared.Waiting.TheVariants.{No}
-use Rattle.state.specs.declared.Held.{Held}
-use Rattle.state.specs.declared.First.{First}
 use Rattle.state.specs.declared.Timer.{Timer}
 use Rattle.state.specs.declared.Set.{Set}
 use Rattle.state.specs.State.{no_timer, timer_at, head_after}
 use Rattle.moves.specs.Rules.{with_timer, with_heap, with_first, dropped_of, held_by, settled_by, settled_of, list_turn, drain_from}
 
 -- a heap stays sound without the entry that a timer holds
-pub dropped_sound : (h : Heap) → Sound h → (d : Held) → Sound (dropped_of h d)
-dropped_sound h s Held.Nothing = s
-dropped_sound h s (Held.At q) = remove_sound_lem h s q
+pub dropped_sound : (h : Heap) → Sound h → (d : Option Slot) → Sound (dropped_of h d)
+dropped_sound h s None = s
+dropped_sound h s (Some q) = remove_sound_lem h s q
 
 -- the set without the first timer of its list, the one at p
 abbrev pub without : Set → ℕ → Set
@@ -64,11 +63,11 @@ module _ (s : Set) (p : ℕ) where
   settled_idle Retired e k = settled_by_lem e
 
   -- a place out of range ends the list
-  pub settled_out : length s.timers ≤ p → settled_of s p ≡ with_first s First.Nothing
+  pub settled_out : length s.timers ≤ p → settled_of s p ≡ with_first s None
   unfolding settled_of
   settled_out out =
       ap (λ (t : Timer). settled_by (with_first s (head_after t.waiting)) p t t.life) (get_or-eq_default s.timers no_timer out)
-      ∙ ap (λ (ts : List Timer). record { heap = s.heap; timers = ts; first = First.Nothing; closed = s.closed }) (set_out s.timers p no_timer out)
+      ∙ ap (λ (ts : List Timer). record { heap = s.heap; timers = ts; first = None; closed = s.closed }) (set_out s.timers p no_timer out)
 
   -- an update keeps the heap sound
   pub settled_heap : Sound s.heap → Sound (settled_of s p).heap
@@ -82,20 +81,20 @@ module _ (s : Set) (p : ℕ) where
       go Retired = h
 
 -- while the list has a head, its update is made and the drain goes on
-pub drain_goes : (k : ℕ) (s : Set) {p : Place} → s.first ≡ First.At p → drain_from (suc k) s ≡ drain_from k (settled_of s p.0)
+pub drain_goes : (k : ℕ) (s : Set) {p : Place} → s.first ≡ Some p → drain_from (suc k) s ≡ drain_from k (settled_of s p.0)
 unfolding drain_from
-drain_goes k s e = ap (λ (f : First). list_turn s f (λ p. drain_from k (settled_of s p))) e
+drain_goes k s e = ap (λ (f : Option Place). list_turn s f (λ p. drain_from k (settled_of s p))) e
 
 -- at the end of the list it stops
-pub drain_ends : (k : ℕ) (s : Set) → s.first ≡ First.Nothing → drain_from k s ≡ s
+pub drain_ends : (k : ℕ) (s : Set) → s.first ≡ None → drain_from k s ≡ s
 unfolding drain_from
 drain_ends zero s e = refl
-drain_ends (suc k) s e = ap (λ (f : First). list_turn s f (λ p. drain_from k (settled_of s p))) e
+drain_ends (suc k) s e = ap (λ (f : Option Place). list_turn s f (λ p. drain_from k (settled_of s p))) e
 
 -- what holds of a set and of what any turn makes of it holds after a walk along the list
-turn_keeps : (P : Set → Type 0) (s : Set) (f : First) (more : ℕ → Set) → P s → ((p : ℕ) → P (more p)) → P (list_turn s f more)
-turn_keeps P s First.Nothing more h m = h
-turn_keeps P s (First.At p) more h m = m p.0
+turn_keeps : (P : Set → Type 0) (s : Set) (f : Option Place) (more : ℕ → Set) → P s → ((p : ℕ) → P (more p)) → P (list_turn s f more)
+turn_keeps P s None more h m = h
+turn_keeps P s (Some p) more h m = m p.0
 
 -- what every update keeps, a drain keeps
 pub drain_keeps : (P : Set → Type 0) → ((s : Set) (p : ℕ) → P s → P (settled_of s p)) → (k : ℕ) (s : Set) → P s → P (drain_from k s)

@@ -1,6 +1,8 @@
 -- No public function of this crate has a second answer.
 -- Assumes nothing.
 use mathlib.Core.Path.{◌≡◌, refl}
+use Rattle.std.specs.Prelude.{Some, None}
+use Rattle.std.specs.Prelude as Code
 use mathlib.Core.Option.{Option, none, some}
 use mathlib.Core.List.{List}
 use Prim.Native.Nat.{ℕ}
@@ -9,8 +11,6 @@ use Rattle.theory.proofs.Promise.{by_rule, plain_apart, undone_apart}
 use Rattle.heap.specs.declared.Place.{Place}
 use Rattle.state.specs.declared.Life.{Life}
 use Rattle.state.specs.declared.Set.{Set}
-use Rattle.moves.specs.declared.list.Spot.{Spot}
-use Rattle.moves.specs.declared.list.Spot.TheVariants as S
 use Rattle.moves.specs.declared.rings.Ran.{Ran}
 use Rattle.moves.specs.Rules.{touched_of, spot_of, lowest_free, drained_of, Ring, advanced_of, closed_of}
 use Rattle.moves.specs.Promises.{Touches, FindsFree, Settles, ring_of, Rings, Shuts}
@@ -19,13 +19,13 @@ use Rattle.moves.specs.Promises.{Touches, FindsFree, Settles, ring_of, Rings, Sh
 pub spot_apart : TellsApart spot_of
 spot_apart = undone_apart spot_of back told
   where
-    back : Option ℕ → Spot
-    back none = S.Nowhere
-    back (some p) = S.At (record { 0 = p })
+    back : Option ℕ → Code.Option Place
+    back none = None
+    back (some p) = Some (record { 0 = p })
 
-    told : (r : Spot) → back (spot_of r) ≡ r
-    told S.Nowhere = refl
-    told (S.At p) = refl
+    told : (r : Code.Option Place) → back (spot_of r) ≡ r
+    told None = refl
+    told (Some p) = refl
 
 -- the answer of an advance with the list as it is then
 abbrev pub rang : Ran × List ℕ → Ring

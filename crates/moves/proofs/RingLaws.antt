@@ -2,7 +2,7 @@
 -- Assumes nothing.
 use mathlib.Core.Path.{◌≡◌, refl, ap, ◌∙◌}
 use mathlib.Core.Bool.{Bool, true, false}
-use Prim.Native.Nat.{ℕ, zero, suc, ◌+◌, ◌-◌, ◌<◌, ◌≤◌}
+use Prim.Native.Nat.{ℕ, zero, suc, ◌+◌, ◌≤◌}
 use native.Mathlib.Omega.{arith}
 use lib.ListN.{length, set, length-set, get_or-eq_default}
 use lib.Seq.{set_out}
@@ -35,10 +35,9 @@ rung_set r = with_timer (popped_set r) (head r).place.0 (rung_timer (head r).gen
 
 module _ (N : ℕ) where
   -- where the head is due it is popped, and one turn fewer is left
-  pub ring_goes : (n : ℕ) (r : Ring) → 0 < n → due_by r.set.heap N ≡ true → ring_from n r N ≡ ring_from (n - 1) (rung_of r) N
+  pub ring_goes : (k : ℕ) (r : Ring) → due_by r.set.heap N ≡ true → ring_from (suc k) r N ≡ ring_from k (rung_of r) N
   unfolding ring_from
-  ring_goes zero r b e = absurd (omega arith)
-  ring_goes (suc k) r b e = let m : k ≡ suc k - 1 = omega arith in rw e (ap (λ (j : ℕ). ring_from j (rung_of r) N) m)
+  ring_goes k r e = rw e
 
   -- where it is not, nothing more is done
   pub ring_ends : (n : ℕ) (r : Ring) → due_by r.set.heap N ≡ false → ring_from n r N ≡ r
@@ -108,5 +107,3 @@ module _ (r : Ring) where
       go : (b : Bool) → reports (head r).generation (struck r).life ≡ b → (rung_of r).reported ≤ r.reported + 1
       go true e = omega (arith, ap (λ (x : Ring). x.reported) (rung_told e))
       go false e = omega (arith, ap (λ (x : Ring). x.reported) (rung_quiet e))
-
--- A WHOLE ADVANCE

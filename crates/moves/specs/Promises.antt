@@ -1,17 +1,16 @@
 -- What each public function of this crate promises of its answer r, and of the lent list as it is at the end.
 -- Assumes nothing.
-use Rattle.std.specs.Prelude.{◌≡◌, List, ℕ}
+use Rattle.std.specs.Prelude.{◌≡◌, List, Option, ℕ}
 use Rattle.heap.specs.declared.Place.{Place}
 use Rattle.state.specs.declared.Life.{Life}
 use Rattle.state.specs.declared.Set.{Set}
-use Rattle.moves.specs.declared.list.Spot.{Spot}
 use Rattle.moves.specs.declared.rings.Ran.{Ran}
 use Rattle.moves.specs.Rules.{touched_of, spot_of, lowest_free, drained_of, Ring, advanced_of, closed_of}
 
 abbrev pub Touches : Set → Place → Life → Set → Type 0
 Touches s p l r = r ≡ touched_of s p.0 l
 
-abbrev pub FindsFree : Set → Spot → Type 0
+abbrev pub FindsFree : Set → Option Place → Type 0
 FindsFree s r = spot_of r ≡ lowest_free s
 
 abbrev pub Settles : Set → Set → Type 0

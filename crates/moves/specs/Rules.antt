@@ -1,12 +1,14 @@
 -- The rules of the timers, as functions on the very values that the code holds: what one update, one drain, one pop, one close
 -- does to a set. The calls with their refusals are in `timers`.
 -- Assumes nothing.
-use Rattle.std.specs.Prelude.{Bool, true, false, not, cond, ◌&&◌, List, ℕ, zero, suc, ◌+◌, ltb, leb, eqb, set}
+use Rattle.std.specs.Prelude.{Bool, true, false, Some, None, not, cond, ◌&&◌, List, ℕ, zero, suc, ◌+◌, ltb, leb, eqb, set}
+use Rattle.std.specs.Prelude as Code
 use Rattle.std.proofs.Math.Option.{Option, none, some}
 use Rattle.theory.specs.First.{first_bad}
 use Rattle.refusals.specs.Answer.{Answer, accepted, refused, unsound}
 use Rattle.heap.specs.Capacity.{cap}
 use Rattle.heap.specs.declared.Slot.{Slot}
+use Rattle.heap.specs.declared.Place.{Place}
 use Rattle.heap.specs.declared.Entry.{Entry}
 use Rattle.heap.specs.declared.Heap.{Heap}
 use Rattle.heap.specs.Rules.{entry_at}
@@ -16,12 +18,8 @@ use Rattle.state.specs.declared.Life.{Life}
 use Rattle.state.specs.declared.Life.TheVariants.{Free, Live, Cancelled, Retired}
 use Rattle.state.specs.declared.Waiting.{Waiting}
 use Rattle.state.specs.declared.Waiting.TheVariants.{No, Last, Before}
-use Rattle.state.specs.declared.Held.{Held}
-use Rattle.state.specs.declared.First.{First}
 use Rattle.state.specs.declared.Timer.{Timer}
 use Rattle.state.specs.declared.Set.{Set}
-use Rattle.moves.specs.declared.list.Spot.{Spot}
-use Rattle.moves.specs.declared.list.Spot.TheVariants as S
 use Rattle.state.specs.State.{timer_at, is_waiting, head_after}
 use Rattle.state.specs.Handles.{handle_word}
 
@@ -32,24 +30,24 @@ with_timer s p t = record { heap = s.heap; timers = set s.timers p t; first = s.
 abbrev pub with_heap : Set → Heap → Set
 with_heap s h = record { heap = h; timers = s.timers; first = s.first; closed = s.closed }
 
-abbrev pub with_first : Set → First → Set
+abbrev pub with_first : Set → Code.Option Place → Set
 with_first s f = record { heap = s.heap; timers = s.timers; first = f; closed = s.closed }
 
 -- THE WAITING LIST
 
 -- the link of a timer that goes in front of the list
-abbrev pub link_to : First → Waiting
-link_to First.Nothing = Last
-link_to (First.At q) = Before q
+abbrev pub link_to : Code.Option Place → Waiting
+link_to None = Last
+link_to (Some q) = Before q
 
 -- the timer at p gets a new life and is pushed on the list. One that waits already stays where it is
-abbrev pub waiting_by : Bool → Timer → First → Waiting
+abbrev pub waiting_by : Bool → Timer → Code.Option Place → Waiting
 waiting_by true t f = t.waiting
 waiting_by false t f = link_to f
 
-abbrev pub head_by : Bool → ℕ → First → First
+abbrev pub head_by : Bool → ℕ → Code.Option Place → Code.Option Place
 head_by true p f = f
-head_by false p f = First.At (record { 0 = p })
+head_by false p f = Some (record { 0 = p })
 
 unfoldable pub touched_of : Set → ℕ → Life → Set
 touched_of s p l =
@@ -73,29 +71,29 @@ unfoldable pub lowest_free : Set → Option ℕ
 lowest_free s = first_bad (taken s) cap 0
 
 -- what the code's search for one finds
-abbrev pub spot_of : Spot → Option ℕ
-spot_of S.Nowhere = none
-spot_of (S.At p) = some p.0
+abbrev pub spot_of : Code.Option Place → Option ℕ
+spot_of None = none
+spot_of (Some p) = some p.0
 
 -- THE DRAIN
 
 -- the heap without the entry that a timer holds
-abbrev pub dropped_of : Heap → Held → Heap
-dropped_of h Held.Nothing = h
-dropped_of h (Held.At q) = (remove_sound h q).state
+abbrev pub dropped_of : Heap → Code.Option Slot → Heap
+dropped_of h None = h
+dropped_of h (Some q) = (remove_sound h q).state
 
 -- the slot that a push answers
-abbrev pub held_by : Answer (Slot × ℕ) → Held
-held_by (accepted v) = Held.At v.0
-held_by (refused n) = Held.Nothing
-held_by (unsound f) = Held.Nothing
+abbrev pub held_by : Answer (Slot × ℕ) → Code.Option Slot
+held_by (accepted v) = Some v.0
+held_by (refused n) = None
+held_by (unsound f) = None
 
 -- a place that a drain frees: nothing of the old timer is left but the use number, one higher; retired where that is used up
 abbrev pub freed_of : ℕ → Timer
 freed_of u =
     cond (eqb u 4294967295)
-    (record { life = Retired; waiting = No; held = Held.Nothing; uses = u })
-    (record { life = Free; waiting = No; held = Held.Nothing; uses = u + 1 })
+    (record { life = Retired; waiting = No; held = None; uses = u })
+    (record { life = Free; waiting = No; held = None; uses = u + 1 })
 
 -- the update of the timer t at p, taken off the list already, by whose place it is. With a deadline: the old entry is removed, a
 -- new one pushed with the deadline and generation of now. Without: any entry is removed, and the place is freed
@@ -112,9 +110,9 @@ unfoldable pub settled_of : Set → ℕ → Set
 settled_of s p = settled_by (with_first s (head_after (timer_at s p).waiting)) p (timer_at s p) (timer_at s p).life
 
 -- the rest of a walk along the list: nothing where it has ended, else what `more` makes of the timer at its head
-abbrev pub list_turn : Set → First → (ℕ → Set) → Set
-list_turn s First.Nothing more = s
-list_turn s (First.At p) more = more p.0
+abbrev pub list_turn : Set → Code.Option Place → (ℕ → Set) → Set
+list_turn s None more = s
+list_turn s (Some p) more = more p.0
 
 -- the updates in list order, in at most as many turns as the first number says
 unfoldable pub drain_from : ℕ → Set → Set
@@ -157,7 +155,7 @@ reports g (Cancelled w) = false
 reports g Retired = false
 
 abbrev pub rung_timer : ℕ → Timer → Timer
-rung_timer g t = record { life = rung_life g t.life; waiting = t.waiting; held = Held.Nothing; uses = t.uses }
+rung_timer g t = record { life = rung_life g t.life; waiting = t.waiting; held = None; uses = t.uses }
 
 -- one pop: the head e comes off, and its timer rings
 abbrev pub rung_by : Ring → Entry → Ring
@@ -199,7 +197,7 @@ unfoldable pub unlisted_of : Set → ℕ → Set
 unlisted_of s p =
     let t = timer_at s p in
     with_first
-    (with_timer s p (record { life = marked_life t.life; waiting = No; held = Held.Nothing; uses = t.uses }))
+    (with_timer s p (record { life = marked_life t.life; waiting = No; held = None; uses = t.uses }))
     (head_after t.waiting)
 
 unfoldable pub unlist_from : ℕ → Set → Set
@@ -211,7 +209,7 @@ abbrev pub popped_by : Set → Entry → Set
 popped_by s e =
     let g = with_heap s (pop_sound s.heap).state in
     let t = timer_at g e.place.0 in
-    with_timer g e.place.0 (record { life = marked_life t.life; waiting = t.waiting; held = Held.Nothing; uses = t.uses })
+    with_timer g e.place.0 (record { life = marked_life t.life; waiting = t.waiting; held = None; uses = t.uses })
 
 unfoldable pub popped_of : Set → Set
 popped_of s = popped_by s (entry_at s.heap 0)

@@ -6,7 +6,7 @@ ghost use Rattle.moves.specs.Rules.{due_by, rung_life, reports, rung_timer};
 ghost use Rattle.moves.specs.Promises.{Rings};
 
 use heap::{Entry, Heap};
-use state::{Handle, Held, Life, Set, Timer};
+use state::{Handle, Life, Set, Timer};
 
 // A set after an advance: how many timers were reported, and how many entries popped.
 #[derive(Clone, Copy)]
@@ -23,27 +23,22 @@ pub fn advanced(s: Set, reading: u64, list: &mut [u64]) -> Ran
     requires cap_in_bounds { cap ≤ length list.old }
     ensures { Rings s reading list.old result list.new }
 {
-    let f = s.first;
     let mut h = s.heap;
     let mut ts = s.timers;
-    let mut left = h.len;
     let mut reported: usize = 0;
     let mut popped: usize = 0;
-    while 0 < left {
+    for _ in 0..s.heap.len {
         if !due(h, reading) {
             break;
         }
         let e = h.entries[0];
-        let o = heap::pop_sound(h);
-        h = o.heap;
+        h = heap::pop_sound(h).state;
         let p = e.place.0 as usize;
         if p < heap::CAP {
             let t = ts[p];
-            let l = t.life;
-            if rings(l, e.generation) {
-                let place = e.place;
+            if rings(t.life, e.generation) {
                 list[reported] = state::handle_word(Handle {
-                    place,
+                    place: e.place,
                     uses: t.uses,
                 });
                 reported += 1;
@@ -51,14 +46,12 @@ pub fn advanced(s: Set, reading: u64, list: &mut [u64]) -> Ran
             ts[p] = rung(t, e.generation);
         }
         popped += 1;
-        left -= 1;
     }
     Ran {
         set: Set {
             heap: h,
             timers: ts,
-            first: f,
-            closed: s.closed,
+            ..s
         },
         reported,
         popped,
@@ -69,36 +62,24 @@ pub fn advanced(s: Set, reading: u64, list: &mut [u64]) -> Ran
 fn due(h: Heap, reading: u64) -> bool
     ensures { result ≡ due_by h reading }
 {
-    if h.len == 0 {
-        return false;
-    }
-    let e = h.entries[0];
-    e.at <= reading
+    h.len != 0 && h.entries[0].at <= reading
 }
 
 // Whether a popped entry's timer is reported: it is live, and its whole word is the generation with neither mark.
 fn rings(life: Life, generation: u32) -> bool
     ensures { result ≡ reports generation life }
 {
-    match life {
-        Life::Free => false,
-        Life::Live { word, due: _ } => word::matches(word, generation),
-        Life::Cancelled { word: _ } => false,
-        Life::Retired => false,
-    }
+    matches!(life, Life::Live { word, .. } if word::matches(word, generation))
 }
 
 // A popped entry's timer: it forgets its slot, and has fired where its whole word matches.
 fn rung(t: Timer, generation: u32) -> Timer
     ensures { result ≡ rung_timer generation t }
 {
-    let l = t.life;
-    let w = t.waiting;
     Timer {
-        life: rung_life(l, generation),
-        waiting: w,
-        held: Held::Nothing,
-        uses: t.uses,
+        life: rung_life(t.life, generation),
+        held: None,
+        ..t
     }
 }
 
@@ -107,26 +88,13 @@ fn rung_life(life: Life, generation: u32) -> Life
     ensures { result ≡ rung_life generation life }
 {
     match life {
-        Life::Free => life,
-        Life::Live { word, due } => {
-            if word::matches(word, generation) {
-                Life::Live {
-                    word: word::with_fired(word),
-                    due,
-                }
-            } else {
-                life
-            }
-        }
-        Life::Cancelled { word } => {
-            if word::matches(word, generation) {
-                Life::Cancelled {
-                    word: word::with_fired(word),
-                }
-            } else {
-                life
-            }
-        }
-        Life::Retired => life,
+        Life::Live { word, due } if word::matches(word, generation) => Life::Live {
+            word: word::with_fired(word),
+            due,
+        },
+        Life::Cancelled { word } if word::matches(word, generation) => Life::Cancelled {
+            word: word::with_fired(word),
+        },
+        _ => life,
     }
 }

@@ -5,134 +5,96 @@ ghost use Rattle.moves.specs.Rules.{dropped_of, held_by, freed_of, settled_of};
 ghost use Rattle.moves.specs.Promises.{Settles};
 ghost use Rattle.heap.specs.Calls.{said_push};
 
-use heap::{Heap, Place};
-use state::{First, Held, Life, Set, Timer, Waiting};
+use heap::{Heap, Place, Pushed, Slot};
+use refusals::Refusal;
+use state::{Life, Set, Timer, Waiting};
 
 // Every update is made.
 #[inline(never)]
-pub fn drained(s: Set) -> Set
+pub fn drained(mut s: Set) -> Set
     requires { Sound s.heap }
     ensures { Settles s result }
 {
-    let mut g = s;
-    let mut left: usize = heap::CAP;
-    while 0 < left {
-        let f = g.first;
-        let First::At(place) = f else {
+    for _ in 0..heap::CAP {
+        let Some(place) = s.first else {
             break;
         };
-        g = settled(g, place);
-        left -= 1;
+        s = settled(s, place);
     }
-    g
+    s
 }
 
 // The timer at a place, first in the list, is taken off it and its update made. (A place out of range ends the list.)
-fn settled(s: Set, place: Place) -> Set
+fn settled(mut s: Set, place: Place) -> Set
     requires { Sound s.heap }
     ensures { result ≡ settled_of s place.0 }
 {
-    let h = s.heap;
-    let mut ts = s.timers;
     let p = place.0 as usize;
     if heap::CAP <= p {
-        return Set {
-            heap: h,
-            timers: ts,
-            first: First::Nothing,
-            closed: s.closed,
-        };
+        s.first = None;
+        return s;
     }
-    let t = ts[p];
-    let d = t.held;
-    let w = t.waiting;
-    let f = state::fault::after(w);
-    let l = t.life;
-    match l {
+    let t = s.timers[p];
+    s.first = state::fault::after(t.waiting);
+    match t.life {
         Life::Live { word, due } => {
-            let o = heap::push_sound(dropped(h, d), due, word::generation(word), place);
-            let k = o.heap;
-            let a = o.answer;
-            ts[p] = Timer {
-                life: l,
+            let pushed = heap::push_sound(
+                dropped(s.heap, t.held),
+                due,
+                word::generation(word),
+                place,
+            );
+            s.heap = pushed.state;
+            s.timers[p] = Timer {
                 waiting: Waiting::No,
-                held: held_by(a),
-                uses: t.uses,
+                held: held_by(pushed.answer),
+                ..t
             };
-            Set {
-                heap: k,
-                timers: ts,
-                first: f,
-                closed: s.closed,
-            }
         }
-        Life::Cancelled { word: _ } => {
-            ts[p] = freed(t.uses);
-            Set {
-                heap: dropped(h, d),
-                timers: ts,
-                first: f,
-                closed: s.closed,
-            }
+        Life::Cancelled { .. } => {
+            s.heap = dropped(s.heap, t.held);
+            s.timers[p] = freed(t.uses);
         }
         Life::Free | Life::Retired => {
-            ts[p] = Timer {
-                life: l,
+            s.timers[p] = Timer {
                 waiting: Waiting::No,
-                held: d,
-                uses: t.uses,
+                ..t
             };
-            Set {
-                heap: h,
-                timers: ts,
-                first: f,
-                closed: s.closed,
-            }
         }
     }
+    s
 }
 
 // The heap without the entry that a timer holds.
-fn dropped(h: Heap, held: Held) -> Heap
+fn dropped(h: Heap, held: Option<Slot>) -> Heap
     requires { Sound h }
     ensures { result ≡ dropped_of h held }
 {
     match held {
-        Held::Nothing => h,
-        Held::At(slot) => {
-            let o = heap::remove_sound(h, slot);
-            let g = o.heap;
-            g
-        }
+        None => h,
+        Some(slot) => heap::remove_sound(h, slot).state,
     }
 }
 
 // The slot that a push answers.
-fn held_by(answer: heap::Pushed) -> Held
+fn held_by(answer: Result<Pushed, Refusal>) -> Option<Slot>
     ensures { result ≡ held_by (said_push answer) }
 {
-    match answer {
-        heap::Pushed::Done { slot, swaps: _ } => Held::At(slot),
-        heap::Pushed::Refused(_) => Held::Nothing,
-    }
+    answer.ok().map(|pushed| pushed.slot)
 }
 
 // A cancelled timer's place, freed: nothing is left but the use number, one higher; retired where the numbers are used up.
 fn freed(uses: u32) -> Timer
     ensures { result ≡ freed_of uses }
 {
-    if uses == u32::MAX {
-        return Timer {
-            life: Life::Retired,
-            waiting: Waiting::No,
-            held: Held::Nothing,
-            uses,
-        };
-    }
+    let (life, uses) = match uses.checked_add(1) {
+        Some(next) => (Life::Free, next),
+        None => (Life::Retired, uses),
+    };
     Timer {
-        life: Life::Free,
+        life,
         waiting: Waiting::No,
-        held: Held::Nothing,
-        uses: uses + 1,
+        held: None,
+        uses,
     }
 }

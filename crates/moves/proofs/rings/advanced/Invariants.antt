@@ -3,7 +3,7 @@
 -- Assumes nothing.
 use mathlib.Core.Path.{◌≡◌}
 use mathlib.Core.List.{List}
-use Prim.Native.Nat.{ℕ, ◌+◌, ◌≤◌}
+use Prim.Native.Nat.{ℕ, ◌+◌, ◌-◌, ◌≤◌}
 use lib.ListN.{length}
 use Rattle.heap.specs.Capacity.{cap}
 use Rattle.heap.specs.Sound.{Sound}
@@ -20,10 +20,7 @@ pub record Going (s : Set) (N : ℕ) (l : List ℕ) (r : Ring) (left : ℕ) : Ty
   pub counted : r.popped + left ≤ cap
   pub rest : ring_from left r N ≡ advanced_of s N l
 
-abbrev pub invariant-loop-left : goal.invariant-loop-left
-invariant-loop-left l = Going l.s l.reading l.initial.list
-    (record { set = record { heap = l.h; timers = l.ts; first = l.f; closed = l.s.closed }; list = l.list; reported = l.reported; popped = l.popped })
-    l.left
-
-abbrev pub decreases-loop-left : goal.decreases-loop-left
-decreases-loop-left l = l.left
+abbrev pub invariant-loop : goal.invariant-loop
+invariant-loop l = Going l.s l.reading l.initial.list
+    (record { set = record { heap = l.h; timers = l.ts; first = l.s.first; closed = l.s.closed }; list = l.list; reported = l.reported; popped = l.popped })
+    (l.end - l.counter)

@@ -1,14 +1,14 @@
 -- An empty heap has no head, so nothing is due; of another the head is compared.
 -- Assumes nothing.
-use native.Mathlib.Omega.{arith}
-use borrow.Author.Tests.{lt-ltb, le-ltb}
+use borrow.Author.Tests.{tests}
+use borrow.Author.Rules.{rules}
 use Rattle.moves.specs.Rules.{due_by}
 use Rattle.moves.proofs.rings.due.Goals as goal
 
-pub returns-then-h-eq0 : goal.returns-then-h-eq0
+pub returns-then-h-ne0 : goal.returns-then-h-ne0
 unfolding due_by
-returns-then-h-eq0 c = rw (le-ltb 0 c.args.h.len (omega arith))
+returns-then-h-ne0 c = search (tests, rules)
 
-pub returns : goal.returns
+pub returns-else-h-ne0 : goal.returns-else-h-ne0
 unfolding due_by
-returns c = rw (lt-ltb 0 c.args.h.len (omega arith))
+returns-else-h-ne0 c = search (tests, rules)

@@ -8,10 +8,10 @@ use Rattle.moves.specs.Rules.{closed_of}
 use Rattle.moves.proofs.CloseLaws.{unlist_heap}
 use Rattle.moves.proofs.shut.closed.Goals as goal
 
-pub emptied-g-requires : goal.emptied-g-requires
-emptied-g-requires c =
+pub emptied-requires : goal.emptied-requires
+emptied-requires c =
     subst (λ (g : Set). Sound g.heap) (sym c.unlisted.ensures) (rw (unlist_heap cap c.args.s) c.requires)
 
 pub returns : goal.returns
 unfolding closed_of
-returns c = rw (c.emptied-g.ensures, c.unlisted.ensures)
+returns c = rw (c.emptied.ensures, c.unlisted.ensures)

@@ -1,7 +1,7 @@
 -- What is left of the emptying is always the whole of it, and each turn is one pop of the rule.
 -- Assumes nothing.
 use mathlib.Core.Path.{◌≡◌}
-use Prim.Native.Nat.{ℕ}
+use Prim.Native.Nat.{ℕ, ◌-◌}
 use lib.ListN.{length}
 use Rattle.heap.specs.Capacity.{cap}
 use Rattle.heap.specs.Sound.{Sound}
@@ -15,8 +15,5 @@ pub record Emptying (s g : Set) (left : ℕ) : Type 0 where
   pub timers_long : length g.timers ≡ cap
   pub rest : empty_from left g ≡ empty_from s.heap.len s
 
-abbrev pub invariant-loop-left : goal.invariant-loop-left
-invariant-loop-left l = Emptying l.s (record { heap = l.h; timers = l.ts; first = l.f; closed = l.s.closed }) l.left
-
-abbrev pub decreases-loop-left : goal.decreases-loop-left
-decreases-loop-left l = l.left
+abbrev pub invariant-loop : goal.invariant-loop
+invariant-loop l = Emptying l.initial.s l.s (l.end - l.counter)

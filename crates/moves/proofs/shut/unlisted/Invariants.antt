@@ -1,7 +1,7 @@
 -- What is left of the list is always the whole of it, and each turn takes one timer off by the rule. A place out of range ends it.
 -- Assumes nothing.
 use mathlib.Core.Path.{◌≡◌}
-use Prim.Native.Nat.{ℕ}
+use Prim.Native.Nat.{ℕ, ◌-◌}
 use lib.ListN.{length}
 use Rattle.heap.specs.Capacity.{cap}
 use Rattle.state.specs.declared.Set.{Set}
@@ -13,8 +13,5 @@ pub record Unlisting (s g : Set) (left : ℕ) : Type 0 where
   pub timers_long : length g.timers ≡ cap
   pub rest : unlist_from left g ≡ unlist_from cap s
 
-abbrev pub invariant-loop-left : goal.invariant-loop-left
-invariant-loop-left l = Unlisting l.s (record { heap = l.h; timers = l.ts; first = l.f; closed = l.s.closed }) l.left
-
-abbrev pub decreases-loop-left : goal.decreases-loop-left
-decreases-loop-left l = l.left
+abbrev pub invariant-loop : goal.invariant-loop
+invariant-loop l = Unlisting l.initial.s l.s (cap - l.counter)

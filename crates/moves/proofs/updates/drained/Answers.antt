@@ -1,42 +1,39 @@
--- At each turn the updates to go make of the set what all of them make of the first one. The heap stays sound, and each turn is
--- one fewer of those that a list can take.
+-- At each turn the updates to go make of the set what all of them make of the first one. The heap stays sound.
 -- Assumes nothing.
-use mathlib.Core.Path.{◌≡◌, refl, sym, ap, ◌∙◌}
-use Prim.Native.Nat.{suc, ◌-◌}
+use mathlib.Core.Path.{◌≡◌, sym, ap, subst, ◌∙◌}
+use Prim.Native.Nat.{ℕ, suc, ◌+◌, ◌-◌}
 use native.Mathlib.Omega.{arith}
-use Rattle.moves.specs.Rules.{drain_from}
+use Rattle.std.specs.Prelude.{Some}
+use Rattle.heap.specs.Capacity.{cap}
+use Rattle.heap.specs.declared.Place.{Place}
+use Rattle.state.specs.declared.Set.{Set}
+use Rattle.moves.specs.Rules.{settled_of, drain_from}
 use Rattle.moves.proofs.DrainLaws.{settled_heap, drain_goes, drain_ends}
+use Rattle.moves.proofs.updates.drained.Invariants.{Draining}
 use Rattle.moves.proofs.updates.drained.Goals as goal
 
-pub loop-left-init : goal.loop-left-init
-loop-left-init c = record { rest = refl; sound = c.requires }
+-- after an update it goes on
+goes_on : {s g : Set} {left k : ℕ} {p : Place} → Draining s g left → left ≡ suc k → g.first ≡ Some p → Draining s (settled_of g p.0) k
+goes_on {g = g} {k = k} v m e = record {
+  rest = sym (drain_goes k g e) ∙ ap (λ n. drain_from n g) (sym m) ∙ v.rest;
+  sound = settled_heap g _ v.sound;
+}
 
-pub settled-g-requires : goal.settled-g-requires
-settled-g-requires c = c.loop-left.invariant.sound
+pub settled-s-requires : goal.settled-s-requires
+settled-s-requires c = c.loop.invariant.sound
 
--- one turn fewer
-pub loop-left-preserved : goal.loop-left-preserved
-loop-left-preserved c =
-    let l = c.loop-left in
-    let m : suc (l.left - 1) ≡ l.left = omega (arith, c.loop-left-test.true) in
-    record {
-      rest =
-          ap (drain_from (l.left - 1)) c.settled-g.ensures ∙ sym (drain_goes (l.left - 1) l.g c.in-At.is)
-          ∙ ap (λ k. drain_from k l.g) m
-          ∙ l.invariant.rest;
-      sound = rw c.settled-g.ensures (settled_heap l.g _ l.invariant.sound);
-    }
+pub loop-preserved : goal.loop-preserved
+loop-preserved c =
+    subst (λ (g : Set). Draining c.args.s g (cap - (c.loop.counter + 1))) (sym c.settled-s.ensures)
+    (goes_on c.loop.invariant (omega arith) c.in-Some.is)
 
 -- no turn is left
-pub returns-after-loop-left : goal.returns-after-loop-left
+pub returns-after-loop : goal.returns-after-loop
 unfolding drain_from
-returns-after-loop-left c =
-    let l = c.loop-left in
-    let z : l.left ≡ 0 = omega arith in
-    ap (λ k. drain_from k l.g) (sym z) ∙ l.invariant.rest
+returns-after-loop c =
+    let z : cap - c.loop.counter ≡ 0 = omega arith in
+    ap (λ n. drain_from n c.loop.s) (sym z) ∙ c.loop.invariant.rest
 
 -- the list has ended
 pub returns-in_default : goal.returns-in_default
-returns-in_default c =
-    let l = c.loop-left in
-    sym (drain_ends l.left l.g c.in_default.is) ∙ l.invariant.rest
+returns-in_default c = sym (drain_ends _ _ c.in_default.is) ∙ c.loop.invariant.rest

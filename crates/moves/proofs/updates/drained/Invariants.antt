@@ -1,8 +1,7 @@
--- At each turn the updates to go make of the set what all of them make of the first one. The heap stays sound, and each turn is
--- one fewer of those that a list can take.
+-- At each turn the updates to go make of the set what all of them make of the first one. The heap stays sound.
 -- Assumes nothing.
 use mathlib.Core.Path.{◌≡◌}
-use Prim.Native.Nat.{ℕ}
+use Prim.Native.Nat.{ℕ, ◌-◌}
 use Rattle.heap.specs.Capacity.{cap}
 use Rattle.heap.specs.Sound.{Sound}
 use Rattle.state.specs.declared.Set.{Set}
@@ -14,8 +13,5 @@ pub record Draining (s g : Set) (left : ℕ) : Type 0 where
   pub rest : drain_from left g ≡ drain_from cap s
   pub sound : Sound g.heap
 
-abbrev pub invariant-loop-left : goal.invariant-loop-left
-invariant-loop-left l = Draining l.initial.g l.g l.left
-
-abbrev pub decreases-loop-left : goal.decreases-loop-left
-decreases-loop-left l = l.left
+abbrev pub invariant-loop : goal.invariant-loop
+invariant-loop l = Draining l.initial.s l.s (cap - l.counter)

@@ -16,22 +16,22 @@ returns-then-p-ge-CAP c =
     let n : length s.timers ≡ cap = search (rules, unmapped) in
     sym (settled_out s c.args.place.0 (omega arith))
 
-pub push_sound-o-requires : goal.push_sound-o-requires
-push_sound-o-requires c =
+pub push_sound-pushed-requires : goal.push_sound-pushed-requires
+push_sound-pushed-requires c =
     rw c.dropped.ensures (dropped_sound c.args.s.heap c.requires (timer_at c.args.s c.args.place.0).held)
 
 pub returns-in-Live : goal.returns-in-Live
 returns-in-Live c =
     let a = c.args in
-    rw (c.held_by.ensures, c.after-f.ensures)
-    (sym (settled_live a.s a.place.0 c.in-Live.is c.dropped.ensures c.generation.ensures c.push_sound-o.ensures))
+    rw (c.held_by.ensures, c.after-s.ensures, c.in-Live.is)
+    (sym (settled_live a.s a.place.0 c.in-Live.is c.dropped.ensures c.generation.ensures c.push_sound-pushed.ensures))
 
 pub returns-in-Cancelled : goal.returns-in-Cancelled
 returns-in-Cancelled c =
     let a = c.args in
-    rw (c.dropped-in-Cancelled.ensures, c.freed.ensures, c.after-f.ensures) (sym (settled_by_lem a.s a.place.0 c.in-Cancelled.is))
+    rw (c.dropped-s.ensures, c.freed.ensures, c.after-s.ensures) (sym (settled_by_lem a.s a.place.0 c.in-Cancelled.is))
 
 pub returns-in-Free : goal.returns-in-Free
 returns-in-Free c =
     let a = c.args in
-    rw c.after-f.ensures (sym (settled_idle a.s a.place.0 (timer_at a.s a.place.0).life refl c.in-Free.in-Free-own.keys3))
+    rw c.after-s.ensures (sym (settled_idle a.s a.place.0 (timer_at a.s a.place.0).life refl (search rules)))
