@@ -13,8 +13,8 @@ use lib.Seq.{take_all, get_or-set_same, get_or-set_other}
 use borrow.Author.Tests.{ltb-true, lt-ltb, le-ltb}
 use Rattle.std.specs.Prelude as Code
 use Rattle.std.specs.Prelude.{Some, None, MatchOption}
-use Rattle.std.specs.List.{count_by, filter}
-use Rattle.std.proofs.lemmas.List.Sums.{length-filter, count_by_more_yes, count_by_more_no}
+use Rattle.std.specs.List.{count_by}
+use Rattle.std.proofs.lemmas.List.Sums.{count_by_more_yes, count_by_more_no}
 use Rattle.theory.specs.Counting.{tally, count}
 use Rattle.theory.proofs.Tests.{and_left}
 use Rattle.theory.proofs.WrongTurns.{Walking, walk_starts, walk_short, walk_stranger, walk_again, walk_goes, walk_ends, walk_long}
@@ -56,12 +56,11 @@ module _ (s : Set) where
   unfolding waits_at
   waits_in {p} l e = rw (lt-ltb p cap l) e
 
-  -- as many timers pass the test as wait
-  pub count_waiting : length s.timers ≡ cap → length (filter (λ (t : Timer). is_waiting t.waiting) s.timers) ≡ count (waits_at s) cap
+  -- as many timers say that they wait as places do
+  pub count_waiting : length s.timers ≡ cap → count_by (λ (t : Timer). is_waiting t.waiting) s.timers ≡ count (waits_at s) cap
   count_waiting e =
       let test = λ (t : Timer). is_waiting t.waiting in
-      length-filter test s.timers
-      ∙ ap (λ ts. count_by test ts) (sym (take_all cap s.timers (omega (arith, e))))
+      ap (λ ts. count_by test ts) (sym (take_all cap s.timers (omega (arith, e))))
       ∙ count_listed test s.timers no_timer (waits_at s) cap (omega (arith, e)) (λ p l. sym (waits_in l refl))
 
   -- a timer that waits is in range

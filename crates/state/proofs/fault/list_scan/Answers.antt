@@ -7,7 +7,6 @@ use native.Mathlib.Omega.{arith}
 use borrow.Author.Rules.{rules}
 use Rattle.state.proofs.ListLaws.{list_starts, list_short, list_past, list_again, list_still, list_goes, list_ended}
 use Rattle.state.proofs.fault.list_scan.Goals as goal
-use Rattle.state.proofs.fault.list_scan.Goals.{then-p-ge-CAP-via-then-p-ge-CAP, then-p-ge-CAP-via-else-p-ge-CAP+then-met-p, then-p-ge-CAP-via-else-p-ge-CAP+else-met-p+then-not-waits}
 
 pub loop-step-init : goal.loop-step-init
 loop-step-init c = list_starts c.args.s c.requires
@@ -19,12 +18,7 @@ pub returns-then-p-ge-CAP : goal.returns-then-p-ge-CAP
 returns-then-p-ge-CAP c =
     let s = c.args.s in
     let w = c.loop-step.invariant in
-    elim c.then-p-ge-CAP.branch [
-      | then-p-ge-CAP-via-then-p-ge-CAP v ↦ list_past s w c.in-Some.is v.if-p-ge-CAP.true
-      | then-p-ge-CAP-via-else-p-ge-CAP+then-met-p v ↦ list_again s w c.in-Some.is v.if-p-ge-CAP.false v.if-met-p.true
-      | then-p-ge-CAP-via-else-p-ge-CAP+else-met-p+then-not-waits v ↦
-          list_still s w c.in-Some.is v.if-p-ge-CAP.false (sym v.waits.ensures ∙ v.if-not-waits.true)
-    ]
+    grind (arith, list_past s w c.in-Some.is, list_again s w c.in-Some.is, list_still s w c.in-Some.is)
 
 pub loop-step-preserved : goal.loop-step-preserved
 loop-step-preserved c =
