@@ -5,17 +5,16 @@ use mathlib.Core.Path.{◌≡◌, refl, sym, ◌∙◌, ap, subst}
 use mathlib.Core.Bool.{Bool, true, false}
 use mathlib.Core.Option.{Option, none, some}
 use mathlib.Core.List.{List}
-use Prim.Native.Nat.{ℕ, zero, suc, ◌+◌, ◌<◌, ◌≤◌}
-use native.Mathlib.Numerals.{add-one}
+use Prim.Native.Nat.{ℕ, ◌+◌, ◌<◌, ◌≤◌}
 use native.Mathlib.Omega.{arith}
-use lib.ListN.{length, take, get_or, set, replicate, length-set, length-replicate, get_or-replicate}
+use lib.ListN.{length, get_or, set, replicate, length-set, length-replicate, get_or-replicate}
 use lib.Seq.{take_all, get_or-set_same, get_or-set_other}
 use borrow.Author.Tests.{ltb-true, lt-ltb, le-ltb}
 use Rattle.std.specs.Prelude as Code
 use Rattle.std.specs.Prelude.{Some, None, MatchOption}
 use Rattle.std.specs.List.{count_by}
-use Rattle.std.proofs.lemmas.List.Sums.{count_by_more_yes, count_by_more_no}
-use Rattle.theory.specs.Counting.{tally, count}
+use Rattle.theory.specs.Counting.{count}
+use Rattle.theory.proofs.Counting.{count_listed}
 use Rattle.theory.proofs.Tests.{and_left}
 use Rattle.theory.proofs.WrongTurns.{Walking, walk_starts, walk_short, walk_stranger, walk_again, walk_goes, walk_ends, walk_long}
 use Rattle.heap.specs.Capacity.{cap}
@@ -32,17 +31,6 @@ head_next : (w : Waiting) → head_of (head_after w) ≡ next_in w
 head_next No = refl
 head_next Last = refl
 head_next (Before q) = refl
-
--- the timers of a list that pass, and the numbers at which they stand
-count_listed : {X : Type 0} (test : X → Bool) (xs : List X) (d : X) (f : ℕ → Bool) (n : ℕ) → n ≤ length xs
-    → ((i : ℕ) → i < n → test (get_or xs i d) ≡ f i) → count_by test (take n xs) ≡ count f n
-unfolding count
-count_listed test xs d f zero l h = refl
-count_listed test xs d f (suc n) l h = go (f n) refl (count_listed test xs d f n (omega arith) (λ i b. h i (omega arith)))
-  where
-    go : (b : Bool) → f n ≡ b → count_by test (take n xs) ≡ count f n → count_by test (take (suc n) xs) ≡ tally b (count f n)
-    go true e r = grind (arith, r, count_by_more_yes test xs n d (omega arith) (h n (omega arith) ∙ e), add-one n)
-    go false e r = grind (arith, r, count_by_more_no test xs n d (omega arith) (h n (omega arith) ∙ e), add-one n)
 
 -- the list as a walk along it finds it: n timers wait, it has met k, stands at one or at the end and has marked those that it met
 pub record OnList (s : Set) (n k : ℕ) (at : Code.Option Place) (met : List Bool) : Type 0 where

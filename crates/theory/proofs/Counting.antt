@@ -3,10 +3,14 @@
 use mathlib.Core.Path.{◌≡◌, refl, sym, ◌∙◌, ap, ap₂, subst}
 use mathlib.Core.Logic.{⊎_elim}
 use mathlib.Core.Bool.{Bool, true, false}
+use mathlib.Core.List.{List}
 use Prim.Native.Nat.{ℕ, zero, suc, ◌+◌, ◌<◌, ◌≤◌}
 use native.Mathlib.Nat.{eq-or-lt_of_le, le_of_suc-le-suc}
 use native.Mathlib.Numerals.{add-one}
 use native.Mathlib.Omega.{arith}
+use lib.ListN.{length, get_or, take}
+use Rattle.std.specs.List.{count_by}
+use Rattle.std.proofs.lemmas.List.Sums.{count_by_more_yes, count_by_more_no}
 use Rattle.theory.specs.Counting.{tally, count}
 use Rattle.theory.proofs.Tests.{true_false}
 
@@ -69,3 +73,14 @@ count_zero f (suc n) e i l t = go (f n) refl (λ e b. count_zero f n e i b t)
     go false q r =
         ⊎_elim (λ d. true_false t (ap f d ∙ q)) (r (sym (ap (λ (b : Bool). tally b (count f n)) q) ∙ e))
         (eq-or-lt_of_le (le_of_suc-le-suc l))
+
+-- the items at the start of a list that pass a test, and the numbers at which they stand
+pub count_listed : {X : Type 0} (test : X → Bool) (xs : List X) (d : X) (f : ℕ → Bool) (n : ℕ) → n ≤ length xs
+    → ((i : ℕ) → i < n → test (get_or xs i d) ≡ f i) → count_by test (take n xs) ≡ count f n
+unfolding count
+count_listed test xs d f zero l h = refl
+count_listed test xs d f (suc n) l h = go (f n) refl (count_listed test xs d f n (omega arith) (λ i b. h i (omega arith)))
+  where
+    go : (b : Bool) → f n ≡ b → count_by test (take n xs) ≡ count f n → count_by test (take (suc n) xs) ≡ tally b (count f n)
+    go true e r = grind (arith, r, count_by_more_yes test xs n d (omega arith) (h n (omega arith) ∙ e), add-one n)
+    go false e r = grind (arith, r, count_by_more_no test xs n d (omega arith) (h n (omega arith) ∙ e), add-one n)

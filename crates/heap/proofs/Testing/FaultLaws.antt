@@ -3,16 +3,15 @@
 use mathlib.Core.Path.{◌≡◌, refl, sym, ap, ◌∙◌}
 use mathlib.Core.Bool.{Bool, true, false, not}
 use mathlib.Core.Option.{Option, none, some}
-use Prim.Native.Nat.{ℕ, zero, suc, ◌+◌, ◌-◌, ◌<◌, ◌≤◌}
-use native.Mathlib.Numerals.{add-one}
+use Prim.Native.Nat.{ℕ, ◌+◌, ◌-◌, ◌<◌, ◌≤◌}
 use native.Mathlib.Omega.{arith}
 use lib.ListN.{length, take}
 use borrow.Author.Tests.{lt-ltb, le-ltb, eq-eqb}
 use Rattle.std.specs.List.{count_by}
-use Rattle.std.proofs.lemmas.List.Sums.{count_by_more_yes, count_by_more_no}
-use Rattle.theory.specs.Counting.{tally, count}
+use Rattle.theory.specs.Counting.{count}
 use Rattle.theory.specs.First.{first_bad}
 use Rattle.theory.specs.Order.{parent}
+use Rattle.theory.proofs.Counting.{count_listed}
 use Rattle.theory.proofs.First.{first_goes, first_here, first_done}
 use Rattle.refusals.specs.declared.fault.Fault.{Fault}
 use Rattle.refusals.specs.Faults.{fault_by}
@@ -48,16 +47,8 @@ module _ (kind : ℕ → Fault) (ok : ℕ → Bool) where
 
 -- of the first n slots so many are full
 pub full_counted : (h : Heap) (n : ℕ) → n ≤ length h.slots → count_by (λ (x : SlabSlot). is_full x.state) (take n h.slots) ≡ count (full_at h) n
-unfolding count full_at
-full_counted h zero l = refl
-full_counted h (suc n) l = go (full_at h n) refl (full_counted h n (omega arith))
-  where
-    p : SlabSlot → Bool
-    p x = is_full x.state
-
-    go : (b : Bool) → full_at h n ≡ b → count_by p (take n h.slots) ≡ count (full_at h) n → count_by p (take (suc n) h.slots) ≡ tally b (count (full_at h) n)
-    go true e r = rw (← add-one n) (omega (arith, r, count_by_more_yes p h.slots n no_slot (omega arith) e))
-    go false e r = rw (← add-one n) (omega (arith, r, count_by_more_no p h.slots n no_slot (omega arith) e))
+unfolding full_at
+full_counted h n l = count_listed (λ (x : SlabSlot). is_full x.state) h.slots no_slot (full_at h) n l (λ i b. refl)
 
 module _ (h : Heap) where
   -- a slot whose state is empty is not full
