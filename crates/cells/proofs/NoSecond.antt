@@ -3,16 +3,13 @@
 use mathlib.Core.Path.{sym, ◌∙◌}
 use mathlib.Core.List.{List}
 use Prim.Native.Nat.{ℕ}
+use Rattle.std.specs.Prelude.{Option}
 use Rattle.theory.specs.Promise.{NoSecond}
 use Rattle.heap.specs.declared.Entry.{Entry}
 use Rattle.heap.specs.declared.SlabSlot.{SlabSlot}
 use Rattle.state.specs.declared.Timer.{Timer}
 use Rattle.digits.proofs.NoSecond.{puts_no_second}
 use Rattle.cells.specs.declared.Header.{Header}
-use Rattle.cells.specs.declared.FoundHeader.{FoundHeader}
-use Rattle.cells.specs.declared.FoundEntry.{FoundEntry}
-use Rattle.cells.specs.declared.FoundSlot.{FoundSlot}
-use Rattle.cells.specs.declared.FoundTimer.{FoundTimer}
 use Rattle.cells.specs.Cells.{header_bytes, entry_bytes, slot_bytes, timer_bytes}
 use Rattle.cells.specs.Promises.{PutsHeader, PutsEntry, PutsSlot, PutsTimer, FindsHeader, FindsEntry, FindsSlot, FindsTimer}
 
@@ -28,14 +25,14 @@ put_slot_no_second q = puts_no_second (2, q.1, q.2, slot_bytes q.0)
 pub put_timer_no_second : NoSecond (λ (q : Timer × List ℕ × ℕ) (r : List ℕ × ℕ). PutsTimer q.0 q.1 q.2 r.0 r.1)
 put_timer_no_second q = puts_no_second (19, q.1, q.2, timer_bytes q.0)
 
-pub header_at_no_second : NoSecond (λ (q : List ℕ × ℕ) (r : FoundHeader). FindsHeader q.0 q.1 r)
-header_at_no_second q r s p t = λ i. record { fine = (p.passes ∙ sym t.passes) i; header = (p.reads ∙ sym t.reads) i }
+pub header_at_no_second : NoSecond (λ (q : List ℕ × ℕ) (r : Option Header). FindsHeader q.0 q.1 r)
+header_at_no_second q r s p t = p ∙ sym t
 
-pub entry_at_no_second : NoSecond (λ (q : List ℕ × ℕ) (r : FoundEntry). FindsEntry q.0 q.1 r)
-entry_at_no_second q r s p t = λ i. record { fine = (p.passes ∙ sym t.passes) i; entry = (p.reads ∙ sym t.reads) i }
+pub entry_at_no_second : NoSecond (λ (q : List ℕ × ℕ) (r : Option Entry). FindsEntry q.0 q.1 r)
+entry_at_no_second q r s p t = p ∙ sym t
 
-pub slot_at_no_second : NoSecond (λ (q : List ℕ × ℕ) (r : FoundSlot). FindsSlot q.0 q.1 r)
-slot_at_no_second q r s p t = λ i. record { fine = (p.passes ∙ sym t.passes) i; slot = (p.reads ∙ sym t.reads) i }
+pub slot_at_no_second : NoSecond (λ (q : List ℕ × ℕ) (r : Option SlabSlot). FindsSlot q.0 q.1 r)
+slot_at_no_second q r s p t = p ∙ sym t
 
-pub timer_at_no_second : NoSecond (λ (q : List ℕ × ℕ) (r : FoundTimer). FindsTimer q.0 q.1 r)
-timer_at_no_second q r s p t = λ i. record { fine = (p.passes ∙ sym t.passes) i; timer = (p.reads ∙ sym t.reads) i }
+pub timer_at_no_second : NoSecond (λ (q : List ℕ × ℕ) (r : Option Timer). FindsTimer q.0 q.1 r)
+timer_at_no_second q r s p t = p ∙ sym t

@@ -3,15 +3,14 @@
 use mathlib.Core.Path.{◌≡◌, refl}
 use mathlib.Core.Bool.{true, false}
 use mathlib.Core.List.{[], ◌∷◌}
+use Rattle.std.specs.Prelude.{Some, None}
 use Rattle.heap.specs.declared.SlotState.TheVariants.{Full, Empty}
 use Rattle.state.specs.declared.Life.TheVariants.{Live, Cancelled, Retired}
 use Rattle.state.specs.declared.Waiting.TheVariants.{No, Last, Before}
-use Rattle.state.specs.declared.Held.TheVariants as H
-use Rattle.state.specs.declared.First.TheVariants as F
 use Rattle.cells.specs.Cells.{header_bytes, entry_bytes, slot_bytes, timer_bytes}
 use Rattle.cells.specs.Fine.{header_clear, header_in, slot_clear, slot_in, timer_clear, timer_in}
 
-a_header : header_bytes (record { closed = true; first = F.At (record { 0 = 7 }); len = 256; made = 256; free = record { 0 = 255 } })
+a_header : header_bytes (record { closed = true; first = Some (record { 0 = 7 }); len = 256; made = 256; free = record { 0 = 255 } })
     ≡ 1 ∷ 3 ∷ 7 ∷ 1 ∷ 0 ∷ 1 ∷ 0 ∷ 0 ∷ 255 ∷ []
 unfolding header_bytes
 a_header = refl
@@ -29,17 +28,17 @@ the_last_slot : slot_bytes (record { state = Empty (record { 0 = 256 }) }) ≡ 1
 unfolding slot_bytes
 the_last_slot = refl
 
-a_live_timer : timer_bytes (record { life = Live 260 9; waiting = Before (record { 0 = 3 }); held = H.At (record { 0 = 4 }); uses = 1 })
+a_live_timer : timer_bytes (record { life = Live 260 9; waiting = Before (record { 0 = 3 }); held = Some (record { 0 = 4 }); uses = 1 })
     ≡ 74 ∷ 3 ∷ 4 ∷ 0 ∷ 0 ∷ 0 ∷ 1 ∷ 0 ∷ 0 ∷ 1 ∷ 4 ∷ 0 ∷ 0 ∷ 0 ∷ 0 ∷ 0 ∷ 0 ∷ 0 ∷ 9 ∷ []
 unfolding timer_bytes
 a_live_timer = refl
 
-a_cancelled_timer : timer_bytes (record { life = Cancelled 1; waiting = Last; held = H.Nothing; uses = 2 })
+a_cancelled_timer : timer_bytes (record { life = Cancelled 1; waiting = Last; held = None; uses = 2 })
     ≡ 132 ∷ 0 ∷ 0 ∷ 0 ∷ 0 ∷ 0 ∷ 2 ∷ 0 ∷ 0 ∷ 0 ∷ 1 ∷ 0 ∷ 0 ∷ 0 ∷ 0 ∷ 0 ∷ 0 ∷ 0 ∷ 0 ∷ []
 unfolding timer_bytes
 a_cancelled_timer = refl
 
-a_retired_place : timer_bytes (record { life = Retired; waiting = No; held = H.Nothing; uses = 256 })
+a_retired_place : timer_bytes (record { life = Retired; waiting = No; held = None; uses = 256 })
     ≡ 192 ∷ 0 ∷ 0 ∷ 0 ∷ 0 ∷ 1 ∷ 0 ∷ 0 ∷ 0 ∷ 0 ∷ 0 ∷ 0 ∷ 0 ∷ 0 ∷ 0 ∷ 0 ∷ 0 ∷ 0 ∷ 0 ∷ []
 unfolding timer_bytes
 a_retired_place = refl

@@ -7,6 +7,9 @@ use native.Mathlib.Omega.{arith}
 use lib.Dec.{eqb, ltb}
 use borrow.Author.Tests.{eqb-true, ltb-true}
 use mir.Val.{bool_byte}
+use Rattle.std.specs.Prelude.{Option, Some, None}
+use Rattle.heap.specs.declared.Place.{Place}
+use Rattle.heap.specs.declared.Slot.{Slot}
 use Rattle.theory.specs.Tests.{bit}
 use Rattle.heap.specs.Capacity.{cap}
 use Rattle.heap.specs.declared.SlotState.TheVariants.{Full, Empty}
@@ -14,10 +17,6 @@ use Rattle.state.specs.declared.Life.{Life}
 use Rattle.state.specs.declared.Life.TheVariants.{Free, Live, Cancelled, Retired}
 use Rattle.state.specs.declared.Waiting.{Waiting}
 use Rattle.state.specs.declared.Waiting.TheVariants.{No, Last, Before}
-use Rattle.state.specs.declared.Held.{Held}
-use Rattle.state.specs.declared.Held.TheVariants as H
-use Rattle.state.specs.declared.First.{First}
-use Rattle.state.specs.declared.First.TheVariants as F
 use Rattle.cells.specs.Ranges.{StateIn}
 use Rattle.cells.specs.Parts.{slot_number, state_from, life_parts, life_from, waiting_parts, waiting_from, held_parts, held_from, first_parts, first_from}
 
@@ -32,13 +31,13 @@ waiting_small No = omega arith
 waiting_small Last = omega arith
 waiting_small (Before p) = omega arith
 
-pub held_small : (h : Held) → (held_parts h).tag ≤ 1
-held_small H.Nothing = omega arith
-held_small (H.At s) = omega arith
+pub held_small : (h : Option Slot) → (held_parts h).tag ≤ 1
+held_small None = omega arith
+held_small (Some s) = omega arith
 
-pub first_small : (f : First) → (first_parts f).tag ≤ 1
-first_small F.Nothing = omega arith
-first_small (F.At p) = omega arith
+pub first_small : (f : Option Place) → (first_parts f).tag ≤ 1
+first_small None = omega arith
+first_small (Some p) = omega arith
 
 pub life_again : (l : Life) → life_from (life_parts l).tag (life_parts l).word (life_parts l).due ≡ l
 life_again Free = refl
@@ -51,13 +50,13 @@ waiting_again No = refl
 waiting_again Last = refl
 waiting_again (Before p) = refl
 
-pub held_again : (h : Held) → held_from (held_parts h).tag (held_parts h).number ≡ h
-held_again H.Nothing = refl
-held_again (H.At s) = refl
+pub held_again : (h : Option Slot) → held_from (held_parts h).tag (held_parts h).number ≡ h
+held_again None = refl
+held_again (Some s) = refl
 
-pub first_again : (f : First) → first_from (first_parts f).tag (first_parts f).number ≡ f
-first_again F.Nothing = refl
-first_again (F.At p) = refl
+pub first_again : (f : Option Place) → first_from (first_parts f).tag (first_parts f).number ≡ f
+first_again None = refl
+first_again (Some p) = refl
 
 -- a mark as the code casts it
 pub mark_bit : (b : Bool) → bool_byte b ≡ bit b
@@ -132,10 +131,10 @@ waiting_none No = refl
 waiting_none Last = refl
 waiting_none (Before p) = refl
 
-pub held_none : (h : Held) → (eqb (held_parts h).tag 1 || eqb (held_parts h).number 0) ≡ true
-held_none H.Nothing = refl
-held_none (H.At s) = refl
+pub held_none : (h : Option Slot) → (eqb (held_parts h).tag 1 || eqb (held_parts h).number 0) ≡ true
+held_none None = refl
+held_none (Some s) = refl
 
-pub first_none : (f : First) → (eqb (first_parts f).tag 1 || eqb (first_parts f).number 0) ≡ true
-first_none F.Nothing = refl
-first_none (F.At p) = refl
+pub first_none : (f : Option Place) → (eqb (first_parts f).tag 1 || eqb (first_parts f).number 0) ≡ true
+first_none None = refl
+first_none (Some p) = refl

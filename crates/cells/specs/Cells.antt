@@ -6,6 +6,7 @@ use Rattle.theory.specs.Tests.{bit}
 use Rattle.digits.specs.Digits.{digits, value_at}
 use Rattle.heap.specs.declared.Entry.{Entry}
 use Rattle.heap.specs.declared.SlabSlot.{SlabSlot}
+use Rattle.heap.specs.declared.SlotState.TheVariants.{Empty}
 use Rattle.state.specs.declared.Timer.{Timer}
 use Rattle.cells.specs.declared.Header.{Header}
 use Rattle.cells.specs.Parts.{slot_number, state_from, life_parts, life_from, waiting_parts, waiting_from, held_parts, held_from, first_parts, first_from}
@@ -48,6 +49,10 @@ slot_bytes s = digits 2 (slot_number s.state)
 
 unfoldable pub slot_of : List ℕ → ℕ → SlabSlot
 slot_of l i = record { state = state_from (value_at 2 l i / 32768) (value_at 2 l i % 512) }
+
+-- the slot whose bytes are zero
+abbrev pub zero_slot : SlabSlot
+zero_slot = record { state = Empty (record { 0 = 0 }) }
 
 -- a timer in 19 bytes: its tags in one (whose place it is from bit 6 on, waiting from bit 2 on, whether it names a slot from bit 1
 -- on); the place that it waits before 1; its slot 1; the use number 4; the word 4; the deadline 8

@@ -1,17 +1,15 @@
 -- The enums of a set as numbers: the case by its tag in docs/IMAGE.md, and what the case holds. What a case does not hold is 0.
 -- The way back is total; a tag that no case has is read as some case.
 -- Assumes nothing.
-use Rattle.std.specs.Prelude.{cond, ℕ, ◌+◌, eqb}
+use Rattle.std.specs.Prelude.{cond, ℕ, ◌+◌, eqb, Option, Some, None}
+use Rattle.heap.specs.declared.Place.{Place}
+use Rattle.heap.specs.declared.Slot.{Slot}
 use Rattle.heap.specs.declared.SlotState.{SlotState}
 use Rattle.heap.specs.declared.SlotState.TheVariants.{Full, Empty}
 use Rattle.state.specs.declared.Life.{Life}
 use Rattle.state.specs.declared.Life.TheVariants.{Free, Live, Cancelled, Retired}
 use Rattle.state.specs.declared.Waiting.{Waiting}
 use Rattle.state.specs.declared.Waiting.TheVariants.{No, Last, Before}
-use Rattle.state.specs.declared.Held.{Held}
-use Rattle.state.specs.declared.Held.TheVariants as H
-use Rattle.state.specs.declared.First.{First}
-use Rattle.state.specs.declared.First.TheVariants as F
 use Rattle.cells.specs.declared.parts.LifeParts.{LifeParts}
 use Rattle.cells.specs.declared.parts.Part.{Part}
 
@@ -42,18 +40,26 @@ waiting_parts (Before p) = record { tag = 2; number = p.0 }
 abbrev pub waiting_from : ℕ → ℕ → Waiting
 waiting_from t p = cond (eqb t 1) Last (cond (eqb t 2) (Before (record { 0 = p })) No)
 
--- whether a timer names a slot, and which
-abbrev pub held_parts : Held → Part
-held_parts H.Nothing = record { tag = 0; number = 0 }
-held_parts (H.At s) = record { tag = 1; number = s.0 }
+-- whether a number is there, and which
+abbrev pub number_parts : Option ℕ → Part
+number_parts None = record { tag = 0; number = 0 }
+number_parts (Some n) = record { tag = 1; number = n }
 
-abbrev pub held_from : ℕ → ℕ → Held
-held_from t s = cond (eqb t 1) (H.At (record { 0 = s })) H.Nothing
+abbrev pub number_from : ℕ → ℕ → Option ℕ
+number_from t n = cond (eqb t 1) (Some n) None
+
+-- whether a timer names a slot, and which
+abbrev pub held_parts : Option Slot → Part
+held_parts None = record { tag = 0; number = 0 }
+held_parts (Some s) = record { tag = 1; number = s.0 }
+
+abbrev pub held_from : ℕ → ℕ → Option Slot
+held_from t s = cond (eqb t 1) (Some (record { 0 = s })) None
 
 -- whether the waiting list has a head, and at which place
-abbrev pub first_parts : First → Part
-first_parts F.Nothing = record { tag = 0; number = 0 }
-first_parts (F.At p) = record { tag = 1; number = p.0 }
+abbrev pub first_parts : Option Place → Part
+first_parts None = record { tag = 0; number = 0 }
+first_parts (Some p) = record { tag = 1; number = p.0 }
 
-abbrev pub first_from : ℕ → ℕ → First
-first_from t p = cond (eqb t 1) (F.At (record { 0 = p })) F.Nothing
+abbrev pub first_from : ℕ → ℕ → Option Place
+first_from t p = cond (eqb t 1) (Some (record { 0 = p })) None

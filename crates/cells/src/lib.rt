@@ -1,229 +1,267 @@
-// The cells of an image: its header, an entry, a slot and a timer as bytes. Each kind has one function that puts a record at an
-// offset of lent bytes, and one that looks at the bytes from an offset on: it says whether they pass by the tables of
-// docs/IMAGE.md, and what they are read as.
+// The cells of an image: its header, an entry, a slot and a timer as bytes. Each is put at an offset of lent bytes, and is read of the
+// bytes from an offset on where they pass by the tables of docs/IMAGE.md, which `columns` tests. The three kinds of which there are
+// whole arrays are a `Cell` each.
 //
-// Bytes pass exactly where they are those of a record whose numbers fit; what is read of bytes that pass has these bytes. What is
-// read of others is a record all the same, and means nothing.
+// Bytes pass exactly where they are those of a record whose numbers fit; what is read of bytes that pass has these bytes.
 #![tactic(auto)]
 
+mod columns;
 mod parts;
 
-ghost use Rattle.std.specs.Prelude.{◌+◌, ◌≤◌, length};
-ghost use Rattle.cells.specs.Promises.{PutsEntry, FindsEntry, PutsSlot, FindsSlot, PutsTimer, FindsTimer, PutsHeader, FindsHeader};
+ghost use Rattle.std.specs.Prelude.{◌+◌, ◌≤◌, ◌≡◌, ◌&&◌, Bool, List, ℕ, length};
+ghost use Rattle.std.specs.Bool.{then_some};
+ghost use Rattle.digits.specs.Promises.{Puts};
+ghost use Rattle.heap.specs.Rules.{no_entry};
+ghost use Rattle.state.specs.State.{no_timer};
+ghost use Rattle.cells.specs.Cells.{entry_bytes, entry_of, slot_bytes, slot_of, zero_slot, timer_bytes, timer_of};
+ghost use Rattle.cells.specs.Fine.{entry_clear, entry_in, slot_clear, slot_in, timer_clear, timer_in};
+ghost use Rattle.cells.specs.Promises.{PutsHeader, FindsHeader, PutsEntry, FindsEntry, PutsSlot, FindsSlot, PutsTimer, FindsTimer};
 
 use heap::{Entry, Place, Pos, SlabSlot, Slot, SlotState};
-use state::{First, Timer};
+use state::{Life, Timer, Waiting};
 
-// How many bytes each kind takes.
-pub const HEADER: usize = 9;
+// A record of which an image has a whole array: an entry, a slot or a timer.
+pub trait Cell: Copy {
+    // How many bytes it takes.
+    ghost SIZE: { ℕ };
 
-pub const ENTRY: usize = 14;
+    const SIZE: usize;
 
-pub const SLOT: usize = 2;
+    // Its bytes.
+    ghost bytes_of: { Self → List ℕ };
 
-pub const TIMER: usize = 19;
+    // Of the bytes from an offset on: whether no spare bit is set, whether each field is in its range, and what they are read as.
+    ghost clear: { List ℕ → ℕ → Bool };
 
-// The number of the format, an image's first byte.
-const FORMAT: u64 = 1;
+    ghost within: { List ℕ → ℕ → Bool };
 
-// A place, a position or a slot is below this, and a count at most this.
-const CAP: u64 = heap::CAP as u64;
+    ghost read_as: { List ℕ → ℕ → Self };
+
+    // What is read of room that is not in use.
+    ghost blank: { Self };
+
+    // The record of room that is not in use, whose bytes are zero.
+    fn unused() -> Self
+        ensures { result ≡ blank };
+
+    // Puts the record, and answers the offset behind it.
+    fn put(self, out: &mut [u8], at: usize) -> usize
+        requires { at + SIZE ≤ length out.old }
+        ensures { Puts SIZE out.old at (bytes_of self) out.new result };
+
+    // The record that the bytes are read as, where they pass.
+    fn read(bytes: &[u8], at: usize) -> Option<Self>
+        requires { at + SIZE ≤ length bytes.now }
+        ensures { result
+            ≡ then_some (clear bytes.now at && within bytes.now at) (read_as bytes.now at) };
+}
 
 // What an image has of a set beside its entries, slots and timers.
 #[derive(Clone, Copy)]
 pub struct Header {
     pub closed: bool,
-    pub first: First,
+    pub first: Option<Place>,
     pub len: usize,
     pub made: usize,
     pub free: Slot,
 }
 
-// What bytes are read as, and whether they pass.
-#[derive(Clone, Copy)]
-pub struct FoundHeader {
-    pub fine: bool,
-    pub header: Header,
-}
+impl Header {
+    // How many bytes it takes.
+    pub const SIZE: usize = 9;
 
-#[derive(Clone, Copy)]
-pub struct FoundEntry {
-    pub fine: bool,
-    pub entry: Entry,
-}
+    // Puts the header, and answers the offset behind it.
+    pub fn put(self, out: &mut [u8], at: usize) -> usize
+        requires { at + 9 ≤ length out.old }
+        ensures { PutsHeader self out.old at out.new result }
+    {
+        let head = parts::number_parts(self.first.map(|place| place.0));
+        let marks = u64::from(self.closed) * 2 + head.tag;
+        let at = digits::put(out, at, 1, columns::FORMAT);
+        let at = digits::put(out, at, 1, marks);
+        let at = digits::put(out, at, 1, u64::from(head.number));
+        let at = digits::put(out, at, 2, self.len as u64);
+        let at = digits::put(out, at, 2, self.made as u64);
+        digits::put(out, at, 2, u64::from(self.free.0))
+    }
 
-#[derive(Clone, Copy)]
-pub struct FoundSlot {
-    pub fine: bool,
-    pub slot: SlabSlot,
-}
-
-#[derive(Clone, Copy)]
-pub struct FoundTimer {
-    pub fine: bool,
-    pub timer: Timer,
-}
-
-// Puts a header, and answers the offset behind it.
-pub fn put_header(out: &mut [u8], at: usize, h: Header) -> usize
-    requires { at + 9 ≤ length out.old }
-    ensures { PutsHeader h out.old at out.new result }
-{
-    let closed = h.closed;
-    let first = h.first;
-    let head = parts::first_parts(first);
-    let marks = (closed as u64) * 2 + head.tag;
-    let a = digits::put(out, at, 1, FORMAT);
-    let b = digits::put(out, a, 1, marks);
-    let c = digits::put(out, b, 1, head.number as u64);
-    let d = digits::put(out, c, 2, h.len as u64);
-    let e = digits::put(out, d, 2, h.made as u64);
-    digits::put(out, e, 2, h.free.0 as u64)
-}
-
-// The header that the bytes are read as.
-pub fn header_at(bytes: &[u8], at: usize) -> FoundHeader
-    requires { at + 9 ≤ length bytes.now }
-    ensures { FindsHeader bytes.now at result }
-{
-    let format = digits::number(bytes, at, 1);
-    let marks = digits::number(bytes, at + 1, 1);
-    let place = digits::number(bytes, at + 2, 1);
-    let len = digits::number(bytes, at + 3, 2);
-    let made = digits::number(bytes, at + 5, 2);
-    let free = digits::number(bytes, at + 7, 2);
-    let spare = (marks / 4 == 0)
-        & ((marks % 2 == 1) | (place == 0))
-        & (len / 512 == 0)
-        & (made / 512 == 0)
-        & (free / 512 == 0);
-    let ranges = (format == FORMAT)
-        & (place < CAP)
-        & (len % 512 <= CAP)
-        & (made % 512 <= CAP)
-        & (free % 512 <= CAP);
-    let header = Header {
-        closed: marks / 2 % 2 == 1,
-        first: parts::first_from(marks % 2, place as u16),
-        len: len as usize,
-        made: made as usize,
-        free: Slot(free as u16),
-    };
-    FoundHeader {
-        fine: spare & ranges,
-        header,
+    // The header that the bytes are read as, where they pass.
+    pub fn read(bytes: &[u8], at: usize) -> Option<Header>
+        requires { at + 9 ≤ length bytes.now }
+        ensures { FindsHeader bytes.now at result }
+    {
+        let format = digits::number(bytes, at, 1);
+        let marks = digits::number(bytes, at + 1, 1);
+        let place = digits::number(bytes, at + 2, 1);
+        let len = digits::number(bytes, at + 3, 2);
+        let made = digits::number(bytes, at + 5, 2);
+        let free = digits::number(bytes, at + 7, 2);
+        let spare = columns::header_spare(marks, place, len, made, free);
+        let ranges = columns::header_range(format, place, len, made, free);
+        (spare && ranges).then_some(Header {
+            closed: marks / 2 % 2 == 1,
+            first: parts::number_from(marks % 2, place as u16).map(Place),
+            len: len as usize,
+            made: made as usize,
+            free: Slot(free as u16),
+        })
     }
 }
 
-// Puts an entry, and answers the offset behind it.
-pub fn put_entry(out: &mut [u8], at: usize, e: Entry) -> usize
-    requires { at + 14 ≤ length out.old }
-    ensures { PutsEntry e out.old at out.new result }
-{
-    let a = digits::put(out, at, 8, e.at);
-    let b = digits::put(out, a, 4, e.generation as u64);
-    let c = digits::put(out, b, 1, e.place.0 as u64);
-    digits::put(out, c, 1, e.slot.0 as u64)
-}
+// An entry: its deadline, its generation, its place and its slot.
+impl Cell for Entry {
+    ghost SIZE = { 14 };
 
-// The entry that the bytes are read as.
-pub fn entry_at(bytes: &[u8], at: usize) -> FoundEntry
-    requires { at + 14 ≤ length bytes.now }
-    ensures { FindsEntry bytes.now at result }
-{
-    let deadline = digits::number(bytes, at, 8);
-    let generation = digits::number(bytes, at + 8, 4);
-    let place = digits::number(bytes, at + 12, 1);
-    let slot = digits::number(bytes, at + 13, 1);
-    let spare = generation / 1_073_741_824 == 0;
-    let ranges = (place < CAP) & (slot < CAP);
-    let entry = Entry {
-        at: deadline,
-        generation: generation as u32,
-        place: Place(place as u16),
-        slot: Slot(slot as u16),
-    };
-    FoundEntry {
-        fine: spare & ranges,
-        entry,
+    const SIZE: usize = 14;
+
+    ghost bytes_of = { entry_bytes };
+
+    ghost clear = { entry_clear };
+
+    ghost within = { entry_in };
+
+    ghost read_as = { entry_of };
+
+    ghost blank = { no_entry };
+
+    fn unused() -> Entry {
+        Entry {
+            at: 0,
+            generation: 0,
+            place: Place(0),
+            slot: Slot(0),
+        }
+    }
+
+    fn put(self, out: &mut [u8], at: usize) -> usize
+        requires { at + 14 ≤ length out.old }
+        ensures { PutsEntry self out.old at out.new result }
+    {
+        let at = digits::put(out, at, 8, self.at);
+        let at = digits::put(out, at, 4, u64::from(self.generation));
+        let at = digits::put(out, at, 1, u64::from(self.place.0));
+        digits::put(out, at, 1, u64::from(self.slot.0))
+    }
+
+    fn read(bytes: &[u8], at: usize) -> Option<Entry>
+        requires { at + 14 ≤ length bytes.now }
+        ensures { FindsEntry bytes.now at result }
+    {
+        let deadline = digits::number(bytes, at, 8);
+        let generation = digits::number(bytes, at + 8, 4);
+        let place = digits::number(bytes, at + 12, 1);
+        let slot = digits::number(bytes, at + 13, 1);
+        let spare = columns::entry_spare(generation);
+        let ranges = columns::entry_range(place, slot);
+        (spare && ranges).then_some(Entry {
+            at: deadline,
+            generation: generation as u32,
+            place: Place(place as u16),
+            slot: Slot(slot as u16),
+        })
     }
 }
 
-// Puts a slot, and answers the offset behind it.
-pub fn put_slot(out: &mut [u8], at: usize, s: SlabSlot) -> usize
-    requires { at + 2 ≤ length out.old }
-    ensures { PutsSlot s out.old at out.new result }
-{
-    let state = s.state;
-    digits::put(out, at, 2, parts::slot_number(state))
-}
+// A slot: one number, whose highest bit is set where it is full.
+impl Cell for SlabSlot {
+    ghost SIZE = { 2 };
 
-// The slot that the bytes are read as.
-pub fn slot_at(bytes: &[u8], at: usize) -> FoundSlot
-    requires { at + 2 ≤ length bytes.now }
-    ensures { FindsSlot bytes.now at result }
-{
-    let n = digits::number(bytes, at, 2);
-    let spare = n / 512 % 64 == 0;
-    let ranges = (n % 512 <= CAP) & ((n / 32768 == 0) | (n % 512 < CAP));
-    let slot = SlabSlot {
-        state: parts::state_from(n / 32768, (n % 512) as u16),
-    };
-    FoundSlot {
-        fine: spare & ranges,
-        slot,
+    const SIZE: usize = 2;
+
+    ghost bytes_of = { slot_bytes };
+
+    ghost clear = { slot_clear };
+
+    ghost within = { slot_in };
+
+    ghost read_as = { slot_of };
+
+    ghost blank = { zero_slot };
+
+    fn unused() -> SlabSlot {
+        SlabSlot {
+            state: SlotState::Empty(Slot(0)),
+        }
+    }
+
+    fn put(self, out: &mut [u8], at: usize) -> usize
+        requires { at + 2 ≤ length out.old }
+        ensures { PutsSlot self out.old at out.new result }
+    {
+        digits::put(out, at, 2, parts::slot_number(self.state))
+    }
+
+    fn read(bytes: &[u8], at: usize) -> Option<SlabSlot>
+        requires { at + 2 ≤ length bytes.now }
+        ensures { FindsSlot bytes.now at result }
+    {
+        let n = digits::number(bytes, at, 2);
+        let spare = columns::slot_spare(n);
+        let ranges = columns::slot_range(n);
+        (spare && ranges).then_some(SlabSlot {
+            state: parts::state_from(n / 32768, (n % 512) as u16),
+        })
     }
 }
 
-// Puts a timer, and answers the offset behind it.
-pub fn put_timer(out: &mut [u8], at: usize, t: Timer) -> usize
-    requires { at + 19 ≤ length out.old }
-    ensures { PutsTimer t out.old at out.new result }
-{
-    let life = t.life;
-    let waiting = t.waiting;
-    let held = t.held;
-    let l = parts::life_parts(life);
-    let w = parts::waiting_parts(waiting);
-    let h = parts::held_parts(held);
-    let tags = l.tag * 64 + w.tag * 4 + h.tag * 2;
-    let a = digits::put(out, at, 1, tags);
-    let b = digits::put(out, a, 1, w.number as u64);
-    let c = digits::put(out, b, 1, h.number as u64);
-    let d = digits::put(out, c, 4, t.uses as u64);
-    let e = digits::put(out, d, 4, l.word as u64);
-    digits::put(out, e, 8, l.due)
-}
+// A timer: its tags in one byte, the place that it waits before, the slot that it names, its use number, its word and its deadline.
+impl Cell for Timer {
+    ghost SIZE = { 19 };
 
-// The timer that the bytes are read as.
-pub fn timer_at(bytes: &[u8], at: usize) -> FoundTimer
-    requires { at + 19 ≤ length bytes.now }
-    ensures { FindsTimer bytes.now at result }
-{
-    let tags = digits::number(bytes, at, 1);
-    let next = digits::number(bytes, at + 1, 1);
-    let slot = digits::number(bytes, at + 2, 1);
-    let uses = digits::number(bytes, at + 3, 4);
-    let word = digits::number(bytes, at + 7, 4);
-    let due = digits::number(bytes, at + 11, 8);
-    let life = tags / 64;
-    let waiting = tags / 4 % 4;
-    let held = tags / 2 % 2;
-    let spare = (tags / 16 % 4 == 0)
-        & (tags % 2 == 0)
-        & ((waiting == 2) | (next == 0))
-        & ((held == 1) | (slot == 0))
-        & ((life == 1) | (life == 2) | (word == 0))
-        & ((life == 1) | (due == 0));
-    let ranges = (waiting < 3) & (next < CAP) & (slot < CAP);
-    let timer = Timer {
-        life: parts::life_from(life, word as u32, due),
-        waiting: parts::waiting_from(waiting, next as u16),
-        held: parts::held_from(held, slot as u16),
-        uses: uses as u32,
-    };
-    FoundTimer {
-        fine: spare & ranges,
-        timer,
+    const SIZE: usize = 19;
+
+    ghost bytes_of = { timer_bytes };
+
+    ghost clear = { timer_clear };
+
+    ghost within = { timer_in };
+
+    ghost read_as = { timer_of };
+
+    ghost blank = { no_timer };
+
+    fn unused() -> Timer {
+        Timer {
+            life: Life::Free,
+            waiting: Waiting::No,
+            held: None,
+            uses: 0,
+        }
+    }
+
+    fn put(self, out: &mut [u8], at: usize) -> usize
+        requires { at + 19 ≤ length out.old }
+        ensures { PutsTimer self out.old at out.new result }
+    {
+        let life = parts::life_parts(self.life);
+        let waiting = parts::waiting_parts(self.waiting);
+        let held = parts::number_parts(self.held.map(|slot| slot.0));
+        let tags = life.tag * 64 + waiting.tag * 4 + held.tag * 2;
+        let at = digits::put(out, at, 1, tags);
+        let at = digits::put(out, at, 1, u64::from(waiting.number));
+        let at = digits::put(out, at, 1, u64::from(held.number));
+        let at = digits::put(out, at, 4, u64::from(self.uses));
+        let at = digits::put(out, at, 4, u64::from(life.word));
+        digits::put(out, at, 8, life.due)
+    }
+
+    fn read(bytes: &[u8], at: usize) -> Option<Timer>
+        requires { at + 19 ≤ length bytes.now }
+        ensures { FindsTimer bytes.now at result }
+    {
+        let tags = digits::number(bytes, at, 1);
+        let next = digits::number(bytes, at + 1, 1);
+        let slot = digits::number(bytes, at + 2, 1);
+        let uses = digits::number(bytes, at + 3, 4);
+        let word = digits::number(bytes, at + 7, 4);
+        let due = digits::number(bytes, at + 11, 8);
+        let spare = columns::timer_spare(tags, next, slot, word, due);
+        let ranges = columns::timer_range(tags, next, slot);
+        (spare && ranges).then_some(Timer {
+            life: parts::life_from(tags / 64, word as u32, due),
+            waiting: parts::waiting_from(tags / 4 % 4, next as u16),
+            held: parts::number_from(tags / 2 % 2, slot as u16).map(Slot),
+            uses: uses as u32,
+        })
     }
 }

@@ -1,9 +1,9 @@
 // The enums of a set as numbers, and back: which case it is, and what the case holds. What a case does not hold is 0.
 ghost use Rattle.std.specs.Prelude.{◌≡◌};
-ghost use Rattle.cells.specs.Parts.{slot_number, state_from, life_parts, life_from, waiting_parts, waiting_from, held_parts, held_from, first_parts, first_from};
+ghost use Rattle.cells.specs.Parts.{slot_number, state_from, life_parts, life_from, waiting_parts, waiting_from, number_parts, number_from};
 
 use heap::{Place, Pos, Slot, SlotState};
-use state::{First, Held, Life, Waiting};
+use state::{Life, Waiting};
 
 // Whose place it is, with its word and its deadline.
 #[derive(Clone, Copy)]
@@ -25,8 +25,8 @@ pub fn slot_number(state: SlotState) -> u64
     ensures { result ≡ slot_number state }
 {
     match state {
-        SlotState::Full(pos) => 32768 + (pos.0 as u64),
-        SlotState::Empty(next) => next.0 as u64,
+        SlotState::Full(pos) => 32768 + u64::from(pos.0),
+        SlotState::Empty(next) => u64::from(next.0),
     }
 }
 
@@ -34,10 +34,10 @@ pub fn slot_number(state: SlotState) -> u64
 pub fn state_from(tag: u64, number: u16) -> SlotState
     ensures { result ≡ state_from tag number }
 {
-    if tag == 0 {
-        return SlotState::Empty(Slot(number));
+    match tag {
+        0 => SlotState::Empty(Slot(number)),
+        _ => SlotState::Full(Pos(number)),
     }
-    SlotState::Full(Pos(number))
 }
 
 // Whose place it is, as numbers.
@@ -68,16 +68,12 @@ pub fn life_parts(life: Life) -> LifeParts
 pub fn life_from(tag: u64, word: u32, due: u64) -> Life
     ensures { result ≡ life_from tag word due }
 {
-    if tag == 0 {
-        return Life::Free;
+    match tag {
+        0 => Life::Free,
+        1 => Life::Live { word, due },
+        2 => Life::Cancelled { word },
+        _ => Life::Retired,
     }
-    if tag == 1 {
-        return Life::Live { word, due };
-    }
-    if tag == 2 {
-        return Life::Cancelled { word };
-    }
-    Life::Retired
 }
 
 // Whether a timer waits and before whom, as numbers.
@@ -98,57 +94,26 @@ pub fn waiting_parts(waiting: Waiting) -> Part
 pub fn waiting_from(tag: u64, place: u16) -> Waiting
     ensures { result ≡ waiting_from tag place }
 {
-    if tag == 1 {
-        return Waiting::Last;
-    }
-    if tag == 2 {
-        return Waiting::Before(Place(place));
-    }
-    Waiting::No
-}
-
-// The slot that a timer names, or none, as numbers.
-pub fn held_parts(held: Held) -> Part
-    ensures { result ≡ held_parts held }
-{
-    match held {
-        Held::Nothing => Part { tag: 0, number: 0 },
-        Held::At(slot) => Part {
-            tag: 1,
-            number: slot.0,
-        },
+    match tag {
+        1 => Waiting::Last,
+        2 => Waiting::Before(Place(place)),
+        _ => Waiting::No,
     }
 }
 
-// The slot that a timer names, or none, from the numbers.
-pub fn held_from(tag: u64, slot: u16) -> Held
-    ensures { result ≡ held_from tag slot }
+// A number that may be there, as numbers.
+pub fn number_parts(number: Option<u16>) -> Part
+    ensures { result ≡ number_parts number }
 {
-    if tag == 1 {
-        return Held::At(Slot(slot));
-    }
-    Held::Nothing
-}
-
-// The head of the waiting list, or none, as numbers.
-pub fn first_parts(first: First) -> Part
-    ensures { result ≡ first_parts first }
-{
-    match first {
-        First::Nothing => Part { tag: 0, number: 0 },
-        First::At(place) => Part {
-            tag: 1,
-            number: place.0,
-        },
+    match number {
+        None => Part { tag: 0, number: 0 },
+        Some(number) => Part { tag: 1, number },
     }
 }
 
-// The head of the waiting list, or none, from the numbers.
-pub fn first_from(tag: u64, place: u16) -> First
-    ensures { result ≡ first_from tag place }
+// A number that may be there, from the numbers.
+pub fn number_from(tag: u64, number: u16) -> Option<u16>
+    ensures { result ≡ number_from tag number }
 {
-    if tag == 1 {
-        return First::At(Place(place));
-    }
-    First::Nothing
+    (tag == 1).then_some(number)
 }

@@ -1,16 +1,17 @@
 -- What a loop over an array of records keeps: one that puts them, and one that reads them.
 -- Assumes nothing.
 use mathlib.Core.Path.{◌≡◌, refl, sym, ap, subst, ◌∙◌}
-use mathlib.Core.Bool.{Bool, true, ◌&&◌}
+use mathlib.Core.Bool.{Bool, true, false, ◌&&◌}
 use mathlib.Core.List.{List, [], ◌∷◌, ◌++◌}
 use Prim.Native.Nat.{ℕ, ◌+◌, ◌*◌, ◌<◌, ◌≤◌}
 use native.Mathlib.Numerals.{add-one}
 use native.Mathlib.Omega.{arith}
-use lib.ListN.{length, set, take, length-set}
+use lib.ListN.{length, set, take}
 use lib.Seq.{take_all, take-suc-set}
+use Rattle.theory.proofs.Tests.{and_left, and_right, is_false, true_false}
 use Rattle.digits.specs.Promises.{Puts}
 use Rattle.digits.specs.Rows.{rows, blocks, all_to}
-use Rattle.digits.proofs.Passing.{all_none, all_more, two_tests}
+use Rattle.digits.proofs.Passing.{all_none, all_more, all_at}
 use Rattle.digits.proofs.Rows.{rows_more, rows_none, blocks_none, blocks_more}
 use Rattle.digits.proofs.Stores.{puts_none, puts_then, puts_as}
 
@@ -51,63 +52,36 @@ module _ {A : Type 0} (f : A → List ℕ) (g : ℕ → A) (n w : ℕ) where
       let e : i ≡ n = omega (arith, v.within) in
       subst (λ (k : ℕ). Puts (k * w) out₀ at (blocks f (rows g k)) out next) e v.so_far
 
--- the first i records are read
-pub record Taking {A : Type 0} (f : ℕ → A) (n : ℕ) (xs : List A) (i : ℕ) : Type 0 where
-  pub within : i ≤ n
-  pub so_far : take i xs ≡ rows f i
-  pub long : length xs ≡ n
+-- the first i records pass both tests, and are read
+pub record Taking {A : Type 0} (f g : ℕ → Bool) (of : ℕ → A) (xs : List A) (i : ℕ) : Type 0 where
+  pub clear : all_to f i ≡ true
+  pub within : all_to g i ≡ true
+  pub so_far : take i xs ≡ rows of i
 
-module _ {A : Type 0} (f : ℕ → A) (n : ℕ) where
-  pub taking_none : (xs : List A) → length xs ≡ n → Taking f n xs 0
-  taking_none xs l = record { within = omega arith; so_far = sym (rows_none f); long = l }
+-- where one does not pass, all do not
+pub one_not : (f g : ℕ → Bool) (i n : ℕ) → i < n → (f i && g i) ≡ false → (all_to f n && all_to g n) ≡ false
+one_not f g i n q e =
+    is_false (all_to f n && all_to g n)
+    (λ h. true_false (λ k. all_at f n (and_left (all_to f n) (all_to g n) h) i q k && all_at g n (and_right (all_to f n) (all_to g n) h) i q k) e)
 
-  pub taking_more : {xs : List A} {i : ℕ} (x : A) → Taking f n xs i → i < n → x ≡ f i → Taking f n (set xs i x) (i + 1)
-  taking_more {xs} {i} x v q e =
-      let h : i < length xs = omega (arith, v.long) in
-      record {
-        within = omega arith;
-        so_far =
-            ap (λ (k : ℕ). take k (set xs i x)) (add-one i)
-            ∙ take-suc-set xs i x h
-            ∙ (λ k. v.so_far k ++ (e k ∷ []))
-            ∙ sym (rows_more f i)
-            ∙ ap (rows f) (sym (add-one i));
-        long = length-set xs i x ∙ v.long;
-      }
+module _ {A : Type 0} (f g : ℕ → Bool) (of : ℕ → A) where
+  pub taking_none : (xs : List A) → Taking f g of xs 0
+  taking_none xs = record { clear = all_none f; within = all_none g; so_far = sym (rows_none of) }
 
-  pub taking_all : {xs : List A} {i : ℕ} → Taking f n xs i → n ≤ i → xs ≡ rows f n
-  taking_all {xs} {i} v q =
-      let e : i ≡ n = omega (arith, v.within) in
-      sym (take_all i xs (omega (arith, v.long))) ∙ v.so_far ∙ ap (rows f) e
-
--- the first i records are read, and tested twice
-pub record Finding {A : Type 0} (f g : ℕ → Bool) (of : ℕ → A) (n : ℕ) (fine : Bool) (xs : List A) (i : ℕ) : Type 0 where
-  pub taking : Taking of n xs i
-  pub passes : fine ≡ (all_to f i && all_to g i)
-
--- all are
-pub record Found {A : Type 0} (f g : ℕ → Bool) (of : ℕ → A) (n : ℕ) (fine : Bool) (xs : List A) : Type 0 where
-  pub passes : fine ≡ (all_to f n && all_to g n)
-  pub reads : xs ≡ rows of n
-
-module _ {A : Type 0} (f g : ℕ → Bool) (of : ℕ → A) (n : ℕ) where
-  pub finding_none : (xs : List A) → length xs ≡ n → Finding f g of n true xs 0
-  finding_none xs l = record { taking = taking_none of n xs l; passes = λ k. sym (all_none f) k && sym (all_none g) k }
-
-  pub finding_more : {fine : Bool} {xs : List A} {i : ℕ} (b : Bool) (x : A) → Finding f g of n fine xs i → i < n → b ≡ (f i && g i)
-      → x ≡ of i → Finding f g of n (fine && b) (set xs i x) (i + 1)
-  finding_more {fine} {xs} {i} b x v q t e = record {
-    taking = taking_more of n x v.taking q e;
-    passes =
-        (λ k. v.passes k && t k)
-        ∙ two_tests (all_to f i) (all_to g i) (f i) (g i)
-        ∙ (λ k. sym (all_more f i) k && sym (all_more g i) k);
+  pub taking_more : {xs : List A} {i : ℕ} (x : A) → Taking f g of xs i → i < length xs → (f i && g i) ≡ true → x ≡ of i → Taking f g of (set xs i x) (i + 1)
+  taking_more {xs} {i} x v q t e = record {
+    clear = all_more f i ∙ (λ k. v.clear k && and_left (f i) (g i) t k);
+    within = all_more g i ∙ (λ k. v.within k && and_right (f i) (g i) t k);
+    so_far =
+        ap (λ (k : ℕ). take k (set xs i x)) (add-one i)
+        ∙ take-suc-set xs i x q
+        ∙ (λ k. v.so_far k ++ (e k ∷ []))
+        ∙ sym (rows_more of i)
+        ∙ ap (rows of) (sym (add-one i));
   }
 
-  pub finding_all : {fine : Bool} {xs : List A} {i : ℕ} → Finding f g of n fine xs i → n ≤ i → Found f g of n fine xs
-  finding_all {fine} {xs} {i} v q =
-      let e : i ≡ n = omega (arith, v.taking.within) in
-      record {
-        passes = v.passes ∙ ap (λ (m : ℕ). all_to f m && all_to g m) e;
-        reads = taking_all of n v.taking q;
-      }
+  pub taking_all : {xs : List A} {i : ℕ} (n : ℕ) → Taking f g of xs i → i ≡ n → length xs ≡ n → ((all_to f n && all_to g n) ≡ true) × (xs ≡ rows of n)
+  taking_all {xs} {i} n v e l = (
+    ap (λ (m : ℕ). all_to f m && all_to g m) (sym e) ∙ (λ k. v.clear k && v.within k),
+    sym (take_all i xs (omega arith)) ∙ v.so_far ∙ ap (rows of) e,
+  )

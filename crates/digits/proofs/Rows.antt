@@ -1,15 +1,18 @@
 -- Lists by their places.
 -- Assumes nothing.
 use mathlib.Core.Path.{◌≡◌, refl, sym, ap, subst, ◌∙◌}
+use mathlib.Core.Bool.{Bool, cond}
+use borrow.Author.Tests.{lt-ltb}
 use mathlib.Core.List.{List, [], ◌∷◌, ◌++◌, append_assoc, append-nil}
 use mathlib.Core.Logic.{by_cases}
 use native.Mathlib.Decide.{dec_lt}
-use Prim.Native.Nat.{ℕ, zero, suc, ◌+◌, ◌*◌, ◌<◌}
+use Prim.Native.Nat.{ℕ, zero, suc, ◌+◌, ◌*◌, ◌<◌, ◌≤◌}
 use native.Mathlib.Omega.{arith}
 use lib.ListN.{length, get_or, length-append, get_or-append}
 use lib.Seq.{get_or_at, ext_get_or}
 use Rattle.digits.specs.Digits.{Stands}
-use Rattle.digits.specs.Rows.{rows, blocks}
+use Rattle.digits.specs.Rows.{rows, blocks, used}
+use Rattle.theory.proofs.Tests.{false_ref, ref_lt}
 use Rattle.digits.proofs.Digits.{stands_left, stands_right, stands_both}
 
 module _ {A : Type 0} where
@@ -23,6 +26,13 @@ module _ {A : Type 0} where
   get_d_any [] i d e h = absurd (omega arith)
   get_d_any (x ∷ l) zero d e h = refl
   get_d_any (x ∷ l) (suc i) d e h = get_d_any l i d e (omega arith)
+
+  -- what is in use, and what is not
+  pub used_in : (d : A) (n : ℕ) (xs : List A) (j : ℕ) → j < n → used d n xs j ≡ get_or xs j d
+  used_in d n xs j q = ap (λ (b : Bool). cond b (get_or xs j d) d) (lt-ltb j n q)
+
+  pub used_not : (d : A) (n : ℕ) (xs : List A) (j : ℕ) → n ≤ j → used d n xs j ≡ d
+  used_not d n xs j q = ap (λ (b : Bool). cond b (get_or xs j d) d) (false_ref (ref_lt j n) (λ p. omega arith))
 
   pub rows_ext : (f g : ℕ → A) (n : ℕ) → ((j : ℕ) → j < n → f j ≡ g j) → rows f n ≡ rows g n
   unfolding rows

@@ -1,14 +1,17 @@
 -- What reading and writing answer, case by case.
 -- Assumes nothing.
-use mathlib.Core.Path.{◌≡◌, sym, ap, ◌∙◌}
+use mathlib.Core.Path.{◌≡◌, refl, sym, ap, ◌∙◌}
 use mathlib.Core.Bool.{Bool, true, false, cond, ◌&&◌}
-use mathlib.Core.Option.{Option}
+use mathlib.Core.Option.{Option, none, some}
 use mathlib.Core.List.{List}
 use Prim.Native.Nat.{ℕ}
 use lib.ListN.{length}
 use borrow.Author.Tests.{eq-eqb, ne_eqb}
 use Rattle.refusals.specs.declared.fault.Fault.{Fault}
-use Rattle.refusals.specs.declared.Refusal.TheVariants.{BadImage}
+use Rattle.std.specs.Prelude.{Result, Ok, Err, MatchResult, IsErrAnd, ⊤}
+use Rattle.refusals.specs.declared.Refusal.{Refusal}
+use Rattle.refusals.specs.declared.Refusal.TheVariants.{Unsound, BadImage}
+use Rattle.refusals.specs.Faults.{said_verdict}
 use Rattle.refusals.specs.Answer.{refuse, kept}
 use Rattle.state.specs.Faults.{fault_of}
 use Rattle.state.specs.declared.Set.{Set}
@@ -48,3 +51,17 @@ unfolding write_of
 write_by s out o q f =
     ap (written_by s out) f
     ∙ ap (λ (b : Bool). cond b (written_by s out (fault_of s)) (kept out (refuse BadImage))) (sym (eq-eqb (length out) size q))
+
+-- a fault that is found is what a call is refused with, and a call is let through where none is
+pub passed_on : {Q : Fault → Refusal → Type 0} → ((f : Fault) (why : Refusal) → Q f why → why ≡ Unsound f)
+    → (r : Result ⊤ Fault) (s : Result ⊤ Refusal) → MatchResult r (λ x. s ≡ Ok x) (λ f. IsErrAnd s (Q f)) → {why : Refusal} → s ≡ Err why
+    → (f : Fault) × (said_verdict r ≡ some f) × (why ≡ Unsound f)
+passed_on q (Ok u) s m e = cc
+passed_on q (Err f) (Ok u) m e = absurd m
+passed_on q (Err f) (Err x) m e = (f, refl, let d : x ≡ _ = cc in sym d ∙ q f x m)
+
+pub let_through : (Q : Fault → Refusal → Type 0) (r : Result ⊤ Fault) (s : Result ⊤ Refusal) → MatchResult r (λ x. s ≡ Ok x) (λ f. IsErrAnd s (Q f)) → {u : ⊤}
+    → s ≡ Ok u → said_verdict r ≡ none
+let_through Q (Ok v) s m e = refl
+let_through Q (Err f) (Ok u) m e = absurd m
+let_through Q (Err f) (Err x) m e = cc

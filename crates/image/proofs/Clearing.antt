@@ -1,12 +1,10 @@
 -- A set with room that is not in use cleared is the same in all that counts, and has the same image and the same fault.
 -- Assumes nothing.
 use mathlib.Core.Path.{◌≡◌, refl, ap, ◌∙◌}
-use mathlib.Core.Bool.{Bool, cond}
 use mathlib.Core.List.{List, ◌++◌}
 use Prim.Native.Nat.{ℕ, ◌<◌, ◌≤◌}
 use native.Mathlib.Omega.{arith}
 use lib.ListN.{get_or}
-use borrow.Author.Tests.{lt-ltb}
 use Rattle.heap.specs.Capacity.{cap}
 use Rattle.heap.specs.Rules.{no_entry, no_slot}
 use Rattle.heap.specs.InUse as Heap
@@ -16,16 +14,16 @@ use Rattle.state.specs.InUse.{SameInUse, Twins}
 use Rattle.state.specs.declared.Set.{Set}
 use Rattle.state.proofs.InUse.{fault_in_use}
 use Rattle.digits.specs.Rows.{rows, blocks, used}
-use Rattle.digits.proofs.Rows.{rows_at, rows_ext, length_rows, get_d_any}
-use Rattle.cells.specs.Cells.{header_bytes, entry_bytes, slot_bytes}
-use Rattle.image.specs.Image.{zero_slot, header_for, entries_bytes, slots_bytes, timers_bytes, image_of, cleared}
+use Rattle.digits.proofs.Rows.{rows_at, rows_ext, length_rows, get_d_any, used_in}
+use Rattle.cells.specs.Cells.{zero_slot, header_bytes, entry_bytes, slot_bytes}
+use Rattle.image.specs.Image.{header_for, entries_bytes, slots_bytes, timers_bytes, image_of, cleared}
 use Rattle.image.proofs.Records.{used_twice}
 
 module _ {A : Type 0} where
   -- what is in use is as it was
   kept : (d : A) (n : ℕ) (xs : List A) (j : ℕ) → n ≤ cap → j < n → get_or (rows (used d n xs) cap) j d ≡ get_or xs j d
   kept d n xs j h q =
-      rows_at (used d n xs) cap j d (omega arith) ∙ ap (λ (b : Bool). cond b (get_or xs j d) d) (lt-ltb j n q)
+      rows_at (used d n xs) cap j d (omega arith) ∙ used_in d n xs j q
 
 module _ (s : Set) (l : s.heap.len ≤ cap) (m : s.heap.made ≤ cap) (v : Heap.Long s.heap) where
   slot_kept : (j : ℕ) → j < s.heap.made → get_or (cleared s).heap.slots j no_slot ≡ get_or s.heap.slots j no_slot

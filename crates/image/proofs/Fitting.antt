@@ -10,6 +10,9 @@ use Prim.Native.Nat.{ℕ, ◌<◌, ◌≤◌, ◌^◌}
 use native.Mathlib.Omega.{arith}
 use lib.Dec.{eqb}
 use borrow.Author.Tests.{lt-ltb, eqb-true}
+use Rattle.std.specs.Prelude as Code
+use Rattle.std.specs.Prelude.{Some, None}
+use Rattle.heap.specs.declared.Place.{Place}
 use Rattle.theory.specs.Counting.{Mem}
 use Rattle.theory.specs.Chain.{unless, Chain, chain_okb}
 use Rattle.theory.proofs.Tests.{none_some}
@@ -28,10 +31,6 @@ use Rattle.state.specs.declared.Life.{Life}
 use Rattle.state.specs.declared.Life.TheVariants.{Free, Live, Cancelled, Retired}
 use Rattle.state.specs.declared.Waiting.{Waiting}
 use Rattle.state.specs.declared.Waiting.TheVariants.{No, Last, Before}
-use Rattle.state.specs.declared.Held.{Held}
-use Rattle.state.specs.declared.Held.TheVariants as H
-use Rattle.state.specs.declared.First.{First}
-use Rattle.state.specs.declared.First.TheVariants as F
 use Rattle.state.specs.declared.Set.{Set}
 use Rattle.state.specs.State.{timer_at, is_waiting, next_in, head_of}
 use Rattle.state.specs.Faults.{waits_at, after_at}
@@ -41,7 +40,7 @@ use Rattle.state.proofs.ListLaws.{waits_in, waits_below}
 use Rattle.digits.proofs.Rows.{get_d_any}
 use Rattle.cells.specs.Parts.{life_parts, waiting_parts, held_parts, first_parts}
 use Rattle.cells.specs.Ranges.{StateIn}
-use Rattle.image.specs.Image.{zero_slot}
+use Rattle.cells.specs.Cells.{zero_slot}
 use Rattle.image.specs.Ranges.{SetIn}
 
 -- the next of a node passes too
@@ -124,11 +123,11 @@ module _ (s : Set) (v : Sound s) where
   first_in : (first_parts s.first).number < cap
   first_in = go s.first refl
     where
-      go : (f : First) → s.first ≡ f → (first_parts f).number < cap
-      go F.Nothing e = omega arith
-      go (F.At p) e =
+      go : (f : Code.Option Place) → s.first ≡ f → (first_parts f).number < cap
+      go None e = omega arith
+      go (Some p) e =
           waits_below s p.0
-          (ok_head (waits_at s) (after_at s) cap p.0 (subst (λ (x : First). chain_okb (waits_at s) (after_at s) cap (head_of x) ≡ true) e v.listed))
+          (ok_head (waits_at s) (after_at s) cap p.0 (subst (λ (x : Code.Option Place). chain_okb (waits_at s) (after_at s) cap (head_of x) ≡ true) e v.listed))
 
   -- the place that a timer waits before
   next_in_range : (p : ℕ) → p < cap → (waiting_parts (timer_at s p).waiting).number < cap
@@ -147,9 +146,9 @@ module _ (s : Set) (v : Sound s) where
   slot_in_range : (p : ℕ) → p < cap → (held_parts (timer_at s p).held).number < cap
   slot_in_range p q = go (timer_at s p).held refl
     where
-      go : (d : Held) → (timer_at s p).held ≡ d → (held_parts d).number < cap
-      go H.Nothing e = omega arith
-      go (H.At n) e = omega (arith, (v.slot_own p n q e).made, v.heap_sound.made_in)
+      go : (d : Code.Option Slot) → (timer_at s p).held ≡ d → (held_parts d).number < cap
+      go None e = omega arith
+      go (Some n) e = omega (arith, (v.slot_own p n q e).made, v.heap_sound.made_in)
 
   -- a sound set whose numbers have the widths fits
   pub sound_fits : Widths s → SetIn s

@@ -12,9 +12,9 @@ use Rattle.state.specs.State.{no_timer}
 use Rattle.state.specs.declared.Set.{Set}
 use Rattle.digits.specs.Rows.{rows, blocks, used}
 use Rattle.digits.proofs.Rows.{length_rows, blocks_long}
-use Rattle.cells.specs.Cells.{header_bytes, entry_bytes, slot_bytes, timer_bytes}
+use Rattle.cells.specs.Cells.{zero_slot, header_bytes, entry_bytes, slot_bytes, timer_bytes}
 use Rattle.cells.proofs.Lengths.{header_long, entry_long, slot_long, timer_long}
-use Rattle.image.specs.Image.{zero_slot, header_for, entries_bytes, slots_bytes, timers_bytes, image_of, size}
+use Rattle.image.specs.Image.{header_for, entries_bytes, slots_bytes, timers_bytes, image_of, size}
 
 rows_long : {A : Type 0} (f : A → List ℕ) (w : ℕ) → ((x : A) → length (f x) ≡ w) → (g : ℕ → A) (n : ℕ) → length (blocks f (rows g n)) ≡ n * w
 rows_long f w h g n = blocks_long f w h (rows g n) ∙ ap (λ (k : ℕ). k * w) (length_rows g n)

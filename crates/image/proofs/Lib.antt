@@ -1,3 +1,4 @@
+pub mod Rows
 pub mod Calling
 pub mod Lengths
 pub mod Records

@@ -7,46 +7,49 @@ use mathlib.Core.List.{List}
 use Prim.Native.Nat.{ℕ}
 use lib.Dec.{eqb}
 use lib.ListN.{length}
+use Rattle.std.specs.Prelude.{Result, Ok, Err, ⊤}
 use Rattle.theory.specs.Promise.{NoSecond, TellsApart}
 use Rattle.theory.proofs.Promise.{by_rule, undone_apart}
 use Rattle.theory.proofs.Tests.{true_false}
 use Rattle.refusals.specs.declared.fault.Fault.{Fault}
+use Rattle.refusals.specs.declared.Refusal.{Refusal}
 use Rattle.refusals.specs.declared.Refusal.TheVariants.{Unsound, BadImage}
 use Rattle.refusals.specs.Answer.{Answer, accepted, refused, unsound, refuse, Outcome, Nothing, kept, is_accepted}
-use Rattle.refusals.proofs.Apart.{refusal_of, refusal_back}
+use Rattle.refusals.proofs.Apart.{refusal_of, refusal_back, result_of, result_back}
+use Rattle.state.specs.State.{fresh_of}
 use Rattle.state.specs.Faults.{fault_of}
 use Rattle.state.specs.declared.Set.{Set}
-use Rattle.image.specs.declared.Reply.{Reply}
-use Rattle.image.specs.declared.Reply.TheVariants.{Done, Refused}
 use Rattle.image.specs.Image.{size}
-use Rattle.image.specs.Calls.{said, told_reading, told_writing, read_of, written_by, write_of}
+use Rattle.image.specs.Calls.{told_reading, told_writing, read_of, written_by, write_of}
 use Rattle.image.specs.Promises.{Reads, Writes}
 
--- what an answer says is said by no other
-abbrev reply_of : Answer Nothing → Reply
-reply_of (accepted v) = Done
-reply_of (refused n) = Refused (refusal_of n)
-reply_of (unsound x) = Refused (Unsound x)
+-- what is read, or is written, is told by what is said of it
+reading_of : Outcome Set Nothing → Result Set Refusal
+reading_of o = of o.answer
+  where
+    of : Answer Nothing → Result Set Refusal
+    of (accepted v) = Ok o.state
+    of (refused n) = Err (refusal_of n)
+    of (unsound x) = Err (Unsound x)
 
-reply_back : (r : Reply) → reply_of (said r) ≡ r
-reply_back Done = refl
-reply_back (Refused r) = refusal_back reply_of Refused (λ n. refl) (λ x. refl) r
+reading_back : (r : Result Set Refusal) → reading_of (told_reading r) ≡ r
+unfolding reading_of
+reading_back (Ok s) = refl
+reading_back (Err r) = refusal_back (λ a. reading_of (record { state = fresh_of; answer = a })) (λ x. Err x) (λ n. refl) (λ x. refl) r
 
 reading_apart : TellsApart told_reading
-reading_apart =
-    undone_apart told_reading (λ (o : Outcome Set Nothing). record { set = o.state; reply = reply_of o.answer })
-    (λ r k. record { set = r.set; reply = reply_back r.reply k })
+reading_apart = undone_apart told_reading reading_of reading_back
 
-writing_apart : TellsApart (λ (q : List ℕ × Reply). told_writing q.0 q.1)
+writing_apart : TellsApart (λ (q : List ℕ × Result ⊤ Refusal). told_writing q.0 q.1)
 writing_apart =
-    undone_apart (λ (q : List ℕ × Reply). told_writing q.0 q.1) (λ (o : Outcome (List ℕ) Nothing). (o.state, reply_of o.answer))
-    (λ q k. (q.0, reply_back q.1 k))
+    undone_apart (λ (q : List ℕ × Result ⊤ Refusal). told_writing q.0 q.1) (λ (o : Outcome (List ℕ) Nothing). (o.state, result_of (λ v. v) o.answer))
+    (λ q k. (q.0, result_back (λ (v : Nothing). v) (λ v. v) (λ v. refl) q.1 k))
 
 pub read_no_second : NoSecond Reads
 read_no_second = by_rule told_reading read_of reading_apart
 
-pub write_no_second : NoSecond (λ (q : Set × List ℕ) (r : List ℕ × Reply). Writes q.0 q.1 r.0 r.1)
-write_no_second = by_rule (λ (r : List ℕ × Reply). told_writing r.0 r.1) (λ (q : Set × List ℕ). write_of q.0 q.1) writing_apart
+pub write_no_second : NoSecond (λ (q : Set × List ℕ) (r : List ℕ × Result ⊤ Refusal). Writes q.0 q.1 r.0 r.1)
+write_no_second = by_rule (λ (r : List ℕ × Result ⊤ Refusal). told_writing r.0 r.1) (λ (q : Set × List ℕ). write_of q.0 q.1) writing_apart
 
 -- a write that is not accepted leaves every byte as it was
 pub refused_kept : (s : Set) (out : List ℕ) → is_accepted (write_of s out).answer ≡ false → (write_of s out).state ≡ out

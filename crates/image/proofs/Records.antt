@@ -13,11 +13,12 @@ use Rattle.digits.specs.Digits.{Bytes, Stands}
 use Rattle.digits.specs.Rows.{rows, used}
 use Rattle.digits.proofs.Digits.{zeros_stand, stand_zeros}
 use Rattle.digits.proofs.Rows.{rows_at}
-use Rattle.cells.specs.Cells.{entry_bytes, slot_bytes}
+use Rattle.cells.specs.Cells.{zero_slot, entry_bytes, entry_of, slot_bytes, slot_of}
+use Rattle.cells.specs.Fine.{entry_clear, entry_in, slot_clear, slot_in}
 use Rattle.cells.specs.Ranges.{EntryIn, StateIn}
 use Rattle.cells.proofs.Again.{Again, entry_again, slot_again}
 use Rattle.cells.proofs.Standing.{entry_stands, slot_stands}
-use Rattle.image.specs.Image.{zero_slot, entry_or, slot_or, entry_clear_if, slot_clear_if, entry_in_if, slot_in_if}
+use Rattle.image.specs.Image.{clear_if, in_if, read_or, entry_or, slot_or, entry_clear_if, slot_clear_if, entry_in_if, slot_in_if}
 
 -- what is not in use is zeros
 entry_zeros : entry_bytes no_entry ≡ replicate 14 0
@@ -29,23 +30,24 @@ unfolding slot_bytes
 slot_zeros = refl
 
 module _ {l : List ℕ} {i : ℕ} where
-  pub entry_if_again : (b : Bool) (e : Entry) → (b ≡ true → EntryIn e) → Stands l i (entry_bytes (cond b e no_entry))
-      → Again (entry_clear_if b l i) (entry_in_if b l i) (entry_or b l i) (cond b e no_entry)
-  entry_if_again true e h s = entry_again e (h refl) s
-  entry_if_again false e h s = record {
-    clear = stand_zeros 14 l i (subst (λ (t : List ℕ). Stands l i t) entry_zeros s);
+  -- a record of any kind: f has its bytes, of which there are w, and those of d are zeros
+  if_again : {A : Type 0} (f : A → List ℕ) (clear within : List ℕ → ℕ → Bool) (of : List ℕ → ℕ → A) (d : A) (w : ℕ) → f d ≡ replicate w 0 → (b : Bool) (x : A)
+      → (b ≡ true → Stands l i (f x) → Again (clear l i) (within l i) (of l i) x) → Stands l i (f (cond b x d))
+      → Again (clear_if clear w b l i) (in_if within b l i) (read_or of d b l i) (cond b x d)
+  if_again f clear within of d w z true x h s = h refl s
+  if_again f clear within of d w z false x h s = record {
+    clear = stand_zeros w l i (subst (λ (t : List ℕ). Stands l i t) z s);
     within = refl;
     again = refl;
   }
 
+  pub entry_if_again : (b : Bool) (e : Entry) → (b ≡ true → EntryIn e) → Stands l i (entry_bytes (cond b e no_entry))
+      → Again (entry_clear_if b l i) (entry_in_if b l i) (entry_or b l i) (cond b e no_entry)
+  entry_if_again b e h s = if_again entry_bytes entry_clear entry_in entry_of no_entry 14 entry_zeros b e (λ q. entry_again e (h q)) s
+
   pub slot_if_again : (b : Bool) (x : SlabSlot) → (b ≡ true → StateIn x.state) → Stands l i (slot_bytes (cond b x zero_slot))
       → Again (slot_clear_if b l i) (slot_in_if b l i) (slot_or b l i) (cond b x zero_slot)
-  slot_if_again true x h s = slot_again x (h refl) s
-  slot_if_again false x h s = record {
-    clear = stand_zeros 2 l i (subst (λ (t : List ℕ). Stands l i t) slot_zeros s);
-    within = refl;
-    again = refl;
-  }
+  slot_if_again b x h s = if_again slot_bytes slot_clear slot_in slot_of zero_slot 2 slot_zeros b x (λ q. slot_again x (h q)) s
 
 module _ (l : List ℕ) (y : Bytes l) (i : ℕ) where
   pub entry_if_stands : (b : Bool) → entry_clear_if b l i ≡ true → Stands l i (entry_bytes (entry_or b l i))

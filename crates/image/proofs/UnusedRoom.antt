@@ -18,8 +18,8 @@ use Rattle.state.specs.declared.Set.{Set}
 use Rattle.state.specs.State.{no_timer}
 use Rattle.state.specs.Sound.{Sound}
 use Rattle.state.specs.InUse.{Twins}
-use Rattle.cells.specs.Cells.{header_bytes, entry_bytes, slot_bytes, timer_bytes}
-use Rattle.image.specs.Image.{zero_slot, header_for, entries_bytes, slots_bytes, timers_bytes, image_of, cleared}
+use Rattle.cells.specs.Cells.{zero_slot, header_bytes, entry_bytes, slot_bytes, timer_bytes}
+use Rattle.image.specs.Image.{header_for, entries_bytes, slots_bytes, timers_bytes, image_of, cleared}
 use Rattle.image.proofs.Clearing.{cleared_twins}
 
 -- a record in use, of two lists that are the same there

@@ -21,13 +21,13 @@ use Rattle.digits.proofs.Digits.{stands_left, stands_skip, stands_then, stands_a
 use Rattle.digits.proofs.Passing.{all_by, all_at}
 use Rattle.digits.proofs.Rows.{rows_at, rows_ext, rows_self, length_rows, block_stands, blocks_stand}
 use Rattle.cells.specs.declared.Header.{Header}
-use Rattle.cells.specs.Cells.{header_bytes, header_of, entry_bytes, entry_of, slot_bytes, slot_of, timer_bytes, timer_of}
+use Rattle.cells.specs.Cells.{zero_slot, header_bytes, header_of, entry_bytes, entry_of, slot_bytes, slot_of, timer_bytes, timer_of}
 use Rattle.cells.specs.Fine.{header_clear, header_in, timer_clear, timer_in}
 use Rattle.cells.specs.Ranges.{EntryIn, StateIn, TimerIn}
 use Rattle.cells.proofs.Lengths.{header_long, entry_long, slot_long, timer_long}
 use Rattle.cells.proofs.Again.{Again, header_again, timer_again}
 use Rattle.cells.proofs.Standing.{header_stands, header_fits, entry_fits_lem, slot_fits, timer_stands, timer_fits}
-use Rattle.image.specs.Image.{entries_at, slots_at, timers_at, size, zero_slot, header_for, entries_bytes, slots_bytes, timers_bytes, image_of, entry_or, slot_or, entries_of, slots_of, timers_of, set_from, entry_clear_if, slot_clear_if, entries_clear, slots_clear, timers_clear, entry_in_if, slot_in_if, entries_in, slots_in, timers_in, spare_clear, fields_in, image_fine, cleared}
+use Rattle.image.specs.Image.{entries_at, slots_at, timers_at, size, header_for, entries_bytes, slots_bytes, timers_bytes, image_of, entry_or, slot_or, entries_of, slots_of, timers_of, set_from, entry_clear_if, slot_clear_if, entries_clear, slots_clear, timers_clear, entry_in_if, slot_in_if, entries_in, slots_in, timers_in, spare_clear, fields_in, image_fine, cleared}
 use Rattle.image.specs.Ranges.{SetIn}
 use Rattle.image.proofs.Calling.{fine_by}
 use Rattle.image.proofs.Lengths.{entries_long, slots_long, image_long}

@@ -1,17 +1,15 @@
 -- Reading and writing an image: what is refused, in which order, and what is had otherwise.
 -- Assumes nothing.
-use Rattle.std.specs.Prelude.{cond, List, ℕ, eqb, length}
+use Rattle.std.specs.Prelude.{cond, List, ℕ, eqb, length, Result, Ok, Err, ⊤}
 use Rattle.std.proofs.Math.Option.{Option, none, some}
 use Rattle.refusals.specs.declared.fault.Fault.{Fault}
 use Rattle.refusals.specs.declared.Refusal.{Refusal}
 use Rattle.refusals.specs.declared.Refusal.TheVariants.{Unsound, BadImage}
-use Rattle.refusals.specs.Answer.{Answer, accepted, refuse, Outcome, Nothing, done, kept}
+use Rattle.refusals.specs.Outcomes.{said_by}
+use Rattle.refusals.specs.Answer.{Answer, refuse, Outcome, Nothing, done, kept}
 use Rattle.state.specs.State.{fresh_of}
 use Rattle.state.specs.Faults.{fault_of}
 use Rattle.state.specs.declared.Set.{Set}
-use Rattle.image.specs.declared.Reading.{Reading}
-use Rattle.image.specs.declared.Reply.{Reply}
-use Rattle.image.specs.declared.Reply.TheVariants.{Done, Refused}
 use Rattle.image.specs.Image.{size, image_fine, image_of, set_from}
 
 -- what a reading that is refused hands back: the fresh set
@@ -35,13 +33,13 @@ written_by s out (some f) = kept out (refuse (Unsound f))
 unfoldable pub write_of : Set → List ℕ → Outcome (List ℕ) Nothing
 write_of s out = cond (eqb (length out) size) (written_by s out (fault_of s)) (kept out (refuse BadImage))
 
--- what the code's answers say
-abbrev pub said : Reply → Answer Nothing
-said Done = accepted tt
-said (Refused r) = refuse r
+-- what the code's answers say; a reading that is refused has the fresh set beside it
+abbrev pub said : Result ⊤ Refusal → Answer Nothing
+said = said_by (λ v. v)
 
-abbrev pub told_reading : Reading → Outcome Set Nothing
-told_reading r = record { state = r.set; answer = said r.reply }
+abbrev pub told_reading : Result Set Refusal → Outcome Set Nothing
+told_reading (Ok s) = done s
+told_reading (Err r) = barred r
 
-abbrev pub told_writing : List ℕ → Reply → Outcome (List ℕ) Nothing
+abbrev pub told_writing : List ℕ → Result ⊤ Refusal → Outcome (List ℕ) Nothing
 told_writing out' r = record { state = out'; answer = said r }

@@ -9,12 +9,11 @@ use Rattle.heap.specs.Rules.{no_entry}
 use Rattle.heap.specs.declared.Entry.{Entry}
 use Rattle.heap.specs.declared.Heap.{Heap}
 use Rattle.heap.specs.declared.SlabSlot.{SlabSlot}
-use Rattle.heap.specs.declared.SlotState.TheVariants.{Empty}
 use Rattle.state.specs.State.{no_timer}
 use Rattle.state.specs.declared.Set.{Set}
 use Rattle.state.specs.declared.Timer.{Timer}
 use Rattle.cells.specs.declared.Header.{Header}
-use Rattle.cells.specs.Cells.{header_bytes, header_of, entry_bytes, entry_of, slot_bytes, slot_of, timer_bytes, timer_of}
+use Rattle.cells.specs.Cells.{zero_slot, header_bytes, header_of, entry_bytes, entry_of, slot_bytes, slot_of, timer_bytes, timer_of}
 use Rattle.cells.specs.Fine.{header_clear, header_in, entry_clear, entry_in, slot_clear, slot_in, timer_clear, timer_in}
 
 -- where the entries, the slots and the timers begin, and how long an image is
@@ -29,10 +28,6 @@ timers_at = slots_at + cap * 2
 
 abbrev pub size : ℕ
 size = timers_at + cap * 19
-
--- the slot whose bytes are zero
-abbrev pub zero_slot : SlabSlot
-zero_slot = record { state = Empty (record { 0 = 0 }) }
 
 -- the header of a set
 abbrev pub header_for : Set → Header
@@ -51,6 +46,17 @@ timers_bytes s = blocks timer_bytes (rows (λ j. get_or s.timers j no_timer) cap
 -- the image of a set
 unfoldable pub image_of : Set → List ℕ
 image_of s = header_bytes (header_for s) ++ (entries_bytes s.heap ++ (slots_bytes s.heap ++ timers_bytes s))
+
+-- the bytes of a record that is in use, or else of room, of w bytes: whether no spare bit is set, whether each field is in its range,
+-- and what is read
+abbrev pub clear_if : (List ℕ → ℕ → Bool) → ℕ → Bool → List ℕ → ℕ → Bool
+clear_if clear w kept l i = cond kept (clear l i) (zeros_at w l i)
+
+abbrev pub in_if : (List ℕ → ℕ → Bool) → Bool → List ℕ → ℕ → Bool
+in_if within kept l i = cond kept (within l i) true
+
+abbrev pub read_or : {A : Type 0} → (List ℕ → ℕ → A) → A → Bool → List ℕ → ℕ → A
+read_or read_as d kept l i = cond kept (read_as l i) d
 
 -- the arrays that are read of bytes, n records of them in use; one that is not is zero
 abbrev pub entry_or : Bool → List ℕ → ℕ → Entry

@@ -1,64 +1,41 @@
 -- What each function promises of its answer r, and of the lent bytes as they are afterwards.
 -- Assumes nothing.
-use Rattle.std.specs.Prelude.{◌≡◌, Bool, ◌&&◌, List, ℕ, ◌*◌}
+use Rattle.std.specs.Prelude.{◌≡◌, Bool, true, false, ◌&&◌, List, ℕ, ◌+◌, ◌*◌, ltb, length, Option, MatchOption, Result, ⊤}
+use Rattle.std.specs.Bool.{then_some}
 use Rattle.digits.specs.Promises.{Puts}
-use Rattle.heap.specs.Capacity.{cap}
-use Rattle.heap.specs.declared.Heap.{Heap}
+use Rattle.digits.specs.Rows.{rows, blocks, used, all_to}
+use Rattle.refusals.specs.declared.Refusal.{Refusal}
 use Rattle.state.specs.declared.Set.{Set}
-use Rattle.cells.specs.declared.FoundEntry.{FoundEntry}
-use Rattle.cells.specs.declared.FoundSlot.{FoundSlot}
-use Rattle.image.specs.declared.arrays.Entries.{Entries}
-use Rattle.image.specs.declared.arrays.Slots.{Slots}
-use Rattle.image.specs.declared.arrays.Timers.{Timers}
-use Rattle.image.specs.declared.FoundSet.{FoundSet}
-use Rattle.image.specs.declared.Reading.{Reading}
-use Rattle.image.specs.declared.Reply.{Reply}
-use Rattle.image.specs.Image.{entries_bytes, slots_bytes, timers_bytes, image_of, entry_or, slot_or, entries_of, slots_of, timers_of, set_from, entry_clear_if, slot_clear_if, entries_clear, slots_clear, timers_clear, entry_in_if, slot_in_if, entries_in, slots_in, timers_in, spare_clear, fields_in}
+use Rattle.image.specs.Image.{image_of, clear_if, in_if, read_or, set_from, spare_clear, fields_in}
 use Rattle.image.specs.Calls.{told_reading, read_of, told_writing, write_of}
 
--- the bytes of an array are put at an offset
-abbrev pub PutsEntries : Heap → List ℕ → ℕ → List ℕ → ℕ → Type 0
-PutsEntries h out at out' r = Puts (cap * 14) out at (entries_bytes h) out' r
+-- the records xs of an array, each of w bytes, the first n of them in use and d for each of the others: their bytes are put
+abbrev pub PutsRows : {A : Type 0} → (A → List ℕ) → A → ℕ → List A → ℕ → List ℕ → ℕ → List ℕ → ℕ → Type 0
+PutsRows f d w xs n out at out' r = Puts (length xs * w) out at (blocks f (rows (used d n xs) (length xs))) out' r
 
-abbrev pub PutsSlots : Heap → List ℕ → ℕ → List ℕ → ℕ → Type 0
-PutsSlots h out at out' r = Puts (cap * 2) out at (slots_bytes h) out' r
+-- such a record is read where its bytes pass
+abbrev pub FindsRow : {A : Type 0} → (List ℕ → ℕ → Bool) → (List ℕ → ℕ → Bool) → (List ℕ → ℕ → A) → A → ℕ → Bool → List ℕ → ℕ → Option A → Type 0
+FindsRow clear within read_as d w kept l i r = r ≡ then_some (clear_if clear w kept l i && in_if within kept l i) (read_or read_as d kept l i)
 
-abbrev pub PutsTimers : Set → List ℕ → ℕ → List ℕ → ℕ → Type 0
-PutsTimers s out at out' r = Puts (cap * 19) out at (timers_bytes s) out' r
+-- the bytes of m records one behind the other, of which n are in use: all are read where the bytes of each pass
+abbrev pub rows_pass : (List ℕ → ℕ → Bool) → (List ℕ → ℕ → Bool) → ℕ → ℕ → ℕ → List ℕ → ℕ → Bool
+rows_pass clear within w m n l i = all_to (λ j. clear_if clear w (ltb j n) l (i + j * w)) m && all_to (λ j. in_if within (ltb j n) l (i + j * w)) m
 
--- the bytes of a record that is in use, or else of room, are looked at: whether they pass, and what is read
-pub record FindsEntryIf (kept : Bool) (l : List ℕ) (i : ℕ) (r : FoundEntry) : Type 0 where
-  pub passes : r.fine ≡ (entry_clear_if kept l i && entry_in_if kept l i)
-  pub reads : r.entry ≡ entry_or kept l i
-
-pub record FindsSlotIf (kept : Bool) (l : List ℕ) (i : ℕ) (r : FoundSlot) : Type 0 where
-  pub passes : r.fine ≡ (slot_clear_if kept l i && slot_in_if kept l i)
-  pub reads : r.slot ≡ slot_or kept l i
-
--- the bytes of an array, of which n records are in use
-pub record FindsEntries (l : List ℕ) (i n : ℕ) (r : Entries) : Type 0 where
-  pub passes : r.fine ≡ (entries_clear l i n && entries_in l i n)
-  pub reads : r.entries ≡ entries_of l i n
-
-pub record FindsSlots (l : List ℕ) (i n : ℕ) (r : Slots) : Type 0 where
-  pub passes : r.fine ≡ (slots_clear l i n && slots_in l i n)
-  pub reads : r.slots ≡ slots_of l i n
-
-pub record FindsTimers (l : List ℕ) (i : ℕ) (r : Timers) : Type 0 where
-  pub passes : r.fine ≡ (timers_clear l i && timers_in l i)
-  pub reads : r.timers ≡ timers_of l i
+abbrev pub FindsRows : {A : Type 0} → (List ℕ → ℕ → Bool) → (List ℕ → ℕ → Bool) → (List ℕ → ℕ → A) → A → ℕ → ℕ → ℕ → List ℕ → ℕ → List A → Option ⊤ → Type 0
+FindsRows clear within read_as d w m n l i xs r =
+    MatchOption r (rows_pass clear within w m n l i ≡ false)
+    (λ _. (rows_pass clear within w m n l i ≡ true) × (xs ≡ rows (λ j. read_or read_as d (ltb j n) l (i + j * w)) m))
 
 -- the whole: looked at, and written
-pub record FindsSet (l : List ℕ) (r : FoundSet) : Type 0 where
-  pub passes : r.fine ≡ (spare_clear l && fields_in l)
-  pub reads : r.set ≡ set_from l
+abbrev pub FindsSet : List ℕ → Option Set → Type 0
+FindsSet l r = r ≡ then_some (spare_clear l && fields_in l) (set_from l)
 
 abbrev pub WritesSet : Set → List ℕ → Type 0
 WritesSet s out' = out' ≡ image_of s
 
 -- the two calls
-abbrev pub Reads : List ℕ → Reading → Type 0
+abbrev pub Reads : List ℕ → Result Set Refusal → Type 0
 Reads l r = told_reading r ≡ read_of l
 
-abbrev pub Writes : Set → List ℕ → List ℕ → Reply → Type 0
+abbrev pub Writes : Set → List ℕ → List ℕ → Result ⊤ Refusal → Type 0
 Writes s out out' r = told_writing out' r ≡ write_of s out

@@ -7,7 +7,8 @@ use Rattle.heap.specs.Rules.{no_entry}
 use Rattle.state.specs.State.{no_timer}
 use Rattle.state.specs.declared.Set.{Set}
 use Rattle.cells.specs.Ranges.{HeaderIn, EntryIn, StateIn, TimerIn}
-use Rattle.image.specs.Image.{zero_slot, header_for}
+use Rattle.cells.specs.Cells.{zero_slot}
+use Rattle.image.specs.Image.{header_for}
 
 pub record SetIn (s : Set) : Type 0 where
   pub timers_long : length s.timers ≡ cap

@@ -2,7 +2,7 @@
 -- Assumes nothing.
 use Rattle.digits.proofs.Stores.{puts_number}
 use Rattle.cells.specs.Cells.{slot_bytes}
-use Rattle.cells.proofs.put_slot.Goals as goal
+use Rattle.cells.proofs.SlabSlotCell.put.Goals as goal
 
 pub returns : goal.returns
 unfolding slot_bytes
