@@ -37,7 +37,13 @@ fn full_count(h: Heap) -> usize
     requires { h.made ≤ cap }
     ensures { result ≡ count (full_at h) h.made }
 {
-    h.slots[..h.made].iter().filter(|s| s.is_full()).count()
+    let mut n = 0;
+    for slot in &h.slots[..h.made] {
+        if slot.is_full() {
+            n += 1;
+        }
+    }
+    n
 }
 
 // The first position whose entry's slot was not made, is empty, or names another position.

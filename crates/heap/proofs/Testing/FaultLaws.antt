@@ -3,15 +3,17 @@
 use mathlib.Core.Path.{◌≡◌, refl, sym, ap, ◌∙◌}
 use mathlib.Core.Bool.{Bool, true, false, not}
 use mathlib.Core.Option.{Option, none, some}
-use Prim.Native.Nat.{ℕ, ◌+◌, ◌-◌, ◌<◌, ◌≤◌}
+use Prim.Native.Nat.{ℕ, zero, suc, ◌+◌, ◌-◌, ◌<◌, ◌≤◌}
+use native.Mathlib.Numerals.{add-one}
 use native.Mathlib.Omega.{arith}
-use lib.ListN.{length, take}
+use lib.ListN.{get_or, take}
+use lib.Seq.{get_or-take}
 use borrow.Author.Tests.{lt-ltb, le-ltb, eq-eqb}
 use Rattle.std.specs.List.{count_by}
-use Rattle.theory.specs.Counting.{count}
+use Rattle.std.proofs.lemmas.List.Sums.{count_by_more_yes, count_by_more_no}
+use Rattle.theory.specs.Counting.{tally, count}
 use Rattle.theory.specs.First.{first_bad}
 use Rattle.theory.specs.Order.{parent}
-use Rattle.theory.proofs.Counting.{count_listed}
 use Rattle.theory.proofs.First.{first_goes, first_here, first_done}
 use Rattle.refusals.specs.declared.fault.Fault.{Fault}
 use Rattle.refusals.specs.Faults.{fault_by}
@@ -45,12 +47,12 @@ module _ (kind : ℕ → Fault) (ok : ℕ → Bool) where
   unfolding scan
   scan_done {end} {i} l = ap (fault_by kind) (first_done ok (end - i) i (omega arith))
 
--- of the first n slots so many are full
-pub full_counted : (h : Heap) (n : ℕ) → n ≤ length h.slots → count_by (λ (x : SlabSlot). is_full x.state) (take n h.slots) ≡ count (full_at h) n
-unfolding full_at
-full_counted h n l = count_listed (λ (x : SlabSlot). is_full x.state) h.slots no_slot (full_at h) n l (λ i b. refl)
-
 module _ (h : Heap) where
+  -- a slot below the n first is full as the list of these has it
+  pub full_by : (n s : ℕ) {b : Bool} → s < n → is_full (get_or (take n h.slots) s no_slot).state ≡ b → full_at h s ≡ b
+  unfolding full_at
+  full_by n s l e = rw get_or-take at e
+
   -- a slot whose state is empty is not full
   pub full_no : (s : ℕ) {n : Slot} → state_at h s ≡ Empty n → full_at h s ≡ false
   unfolding full_at

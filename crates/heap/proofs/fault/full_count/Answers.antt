@@ -1,20 +1,42 @@
--- `fault::full_count` is right: the slots that were made stand at their numbers.
+-- `fault::full_count` is right: after some slots the number is the count of the full ones among them.
 -- Assumes nothing.
-use mathlib.Core.Path.{◌≡◌, ◌∙◌}
+use mathlib.Core.Path.{◌≡◌, refl, sym, ◌∙◌, ap}
+use Prim.Native.Nat.{◌<◌}
 use native.Mathlib.Omega.{arith}
-use lib.ListN.{length, take}
 use borrow.Author.Rules.{rules}
-use Rattle.std.specs.List.{count_by}
+use lib.ListN.{length}
+use lib.Seq.{length-take-le}
+use Rattle.std.proofs.lemmas.List.{length-take}
+use Rattle.theory.specs.Counting.{count}
+use Rattle.theory.proofs.Counting.{count_yes, count_no, count_le}
 use Rattle.theory.proofs.Stores.{unmapped}
 use Rattle.heap.specs.Capacity.{cap}
-use Rattle.heap.specs.declared.SlabSlot.{SlabSlot}
-use Rattle.heap.specs.Faults.{is_full}
-use Rattle.heap.proofs.Testing.FaultLaws.{full_counted}
+use Rattle.heap.specs.Faults.{full_at}
+use Rattle.heap.proofs.Testing.FaultLaws.{full_by}
 use Rattle.heap.proofs.fault.full_count.Goals as goal
+use Rattle.heap.proofs.fault.full_count.Goals.{then-is_full, else-is_full}
+
+pub loop-slot-init : goal.loop-slot-init
+unfolding count
+loop-slot-init c = refl
+
+pub overflow_add-n : goal.overflow_add-n
+overflow_add-n c = omega (arith, count_le (full_at c.args.h) c.loop-slot.slot-index, length-take c.args.h.made c.args.h.slots)
+
+pub loop-slot-preserved : goal.loop-slot-preserved
+loop-slot-preserved c =
+    let h = c.args.h in
+    let l = c.loop-slot in
+    let b : l.slot-index < h.made = omega (arith, length-take h.made h.slots) in
+    elim c.if-is_full.branch [
+      | then-is_full w ↦ omega (arith, w.n-is, count_yes (full_at h) l.slot-index (full_by h h.made l.slot-index b (sym c.is_full.ensures ∙ w.if-is_full.true)))
+      | else-is_full w ↦ omega (arith, w.n-is, count_no (full_at h) l.slot-index (full_by h h.made l.slot-index b (sym c.is_full.ensures ∙ w.if-is_full.false)))
+    ]
 
 pub returns : goal.returns
 returns c =
     let h = c.args.h in
+    let l = c.loop-slot in
     let n : length h.slots ≡ cap = search (rules, unmapped) in
-    let e : c.count.result ≡ count_by (λ (x : SlabSlot). is_full x.state) (take h.made h.slots) = search rules in
-    e ∙ full_counted h h.made (omega arith)
+    let e : l.slot-index ≡ h.made = omega (arith, length-take-le h.made h.slots (omega arith)) in
+    l.invariant ∙ ap (count (full_at h)) e
