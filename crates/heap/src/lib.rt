@@ -14,6 +14,7 @@ mod walk;
 ghost use Rattle.std.specs.Prelude.{◌≡◌, ◌<◌, ◌≤◌};
 ghost use Rattle.heap.specs.Capacity.{cap};
 ghost use Rattle.heap.specs.Rules.{taken_of, vacated_of, filled_of};
+ghost use Rattle.heap.specs.declared.SlotState.TheVariants.{Full, Empty};
 ghost use Rattle.heap.specs.Faults.{is_full, names};
 ghost use Rattle.heap.specs.Sound.{Sound, SlotsIn};
 ghost use Rattle.heap.specs.Promises.{Capacity, Before, Heights, Fresh, Consistent, Guards, Pushes, Removes, Pops, Peeks, PushesSound, RemovesSound, PopsSound, PeeksSound};
@@ -59,6 +60,24 @@ pub struct SlabSlot {
 }
 
 impl SlabSlot {
+    // The slot of an entry that stands at a position.
+    fn full(at: Pos) -> SlabSlot
+        ensures { result ≡ record { state = Full at } }
+    {
+        SlabSlot {
+            state: SlotState::Full(at),
+        }
+    }
+
+    // A slot with none, which names the next free one.
+    fn empty(next: Slot) -> SlabSlot
+        ensures { result ≡ record { state = Empty next } }
+    {
+        SlabSlot {
+            state: SlotState::Empty(next),
+        }
+    }
+
     // Whether an entry stands in the slot.
     fn is_full(self) -> bool
         ensures { result ≡ is_full self.state }
@@ -132,13 +151,10 @@ pub fn fresh() -> Heap
         place: Place(0),
         slot: Slot(0),
     };
-    let s = SlabSlot {
-        state: SlotState::Empty(Slot(0)),
-    };
     Heap {
         entries: [e; CAP],
         len: 0,
-        slots: [s; CAP],
+        slots: [SlabSlot::empty(Slot(0)); CAP],
         made: 0,
         free: Slot(0),
     }
@@ -277,9 +293,7 @@ fn vacated(mut h: Heap, slot: Slot) -> Heap
     requires { slot.0 < cap }
     ensures { result ≡ vacated_of h slot }
 {
-    h.slots[slot.0 as usize] = SlabSlot {
-        state: SlotState::Empty(h.free),
-    };
+    h.slots[slot.0 as usize] = SlabSlot::empty(h.free);
     h.free = slot;
     h
 }

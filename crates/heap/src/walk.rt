@@ -6,7 +6,7 @@ ghost use Rattle.std.specs.Prelude.{◌≡◌, ◌<◌};
 ghost use Rattle.heap.specs.Rules.{put_at, up_from, down_from};
 ghost use Rattle.heap.specs.Sound.{SlotsIn};
 
-use crate::{Entry, Heap, Pos, SlabSlot, SlotState};
+use crate::{Entry, Heap, Pos, SlabSlot};
 
 // A heap after a walk: where the entry stands now, and the swaps that it took.
 #[derive(Clone, Copy)]
@@ -17,92 +17,61 @@ pub struct Moved {
 }
 
 // An entry that is to stand at a position goes up from there while it is smaller than the parent.
-pub fn percolate_up(h: Heap, e: Entry, from: Pos) -> Moved
+pub fn percolate_up(mut h: Heap, e: Entry, from: Pos) -> Moved
     requires from_lt_len { from.0 < h.len }
     requires slots_in { SlotsIn (put_at h from.0 e) }
     ensures { result ≡ up_from from.0 (put_at h from.0 e) from.0 0 }
 {
-    let mut g = h;
     let mut at = from;
-    let mut n: usize = 0;
+    let mut swaps = 0;
     while 0 < at.0 {
         let parent = Pos((at.0 - 1) / 2);
-        let i = at.0 as usize;
-        let p = parent.0 as usize;
-        let above = g.entries[p];
+        let above = h.entries[parent.0 as usize];
         if !crate::before(e, above) {
             break;
         }
-        let t = above.slot.0 as usize;
-        g.entries[i] = above;
-        g.slots[t] = SlabSlot {
-            state: SlotState::Full(at),
-        };
+        h.entries[at.0 as usize] = above;
+        h.slots[above.slot.0 as usize] = SlabSlot::full(at);
         at = parent;
-        n += 1;
+        swaps += 1;
     }
-    let i = at.0 as usize;
-    let s = e.slot.0 as usize;
-    g.entries[i] = e;
-    g.slots[s] = SlabSlot {
-        state: SlotState::Full(at),
-    };
-    Moved {
-        heap: g,
-        at,
-        swaps: n,
-    }
+    h.entries[at.0 as usize] = e;
+    h.slots[e.slot.0 as usize] = SlabSlot::full(at);
+    Moved { heap: h, at, swaps }
 }
 
 // An entry that is to stand at a position goes down from there while a child is smaller than it.
-pub fn percolate_down(h: Heap, e: Entry, from: Pos) -> Moved
+pub fn percolate_down(mut h: Heap, e: Entry, from: Pos) -> Moved
     requires from_lt_len { from.0 < h.len }
     requires slots_in { SlotsIn (put_at h from.0 e) }
     ensures { result ≡ down_from h.len (put_at h from.0 e) from.0 0 }
 {
     let len = h.len;
-    let mut g = h;
     let mut at = from;
-    let mut n: usize = 0;
+    let mut swaps = 0;
     let last = loop {
         let left = 2 * at.0 + 1;
-        let i = at.0 as usize;
         let l = left as usize;
         if len <= l {
             break at;
         }
-        // a number, and not a branch: which child is the smaller cannot be foreseen
-        let mut k: u16 = 0;
-        if l + 1 < len {
-            let a = g.entries[l];
-            let b = g.entries[l + 1];
-            if crate::before(b, a) {
-                k = 1;
-            }
-        }
-        let child = Pos(left + k);
-        let c = child.0 as usize;
-        let below = g.entries[c];
+        // added as a number, and not taken by a branch: which child is the smaller cannot be foreseen
+        let right = l + 1 < len && crate::before(h.entries[l + 1], h.entries[l]);
+        let child = Pos(left + u16::from(right));
+        let below = h.entries[child.0 as usize];
         if !crate::before(below, e) {
             break at;
         }
-        let t = below.slot.0 as usize;
-        g.entries[i] = below;
-        g.slots[t] = SlabSlot {
-            state: SlotState::Full(at),
-        };
+        h.entries[at.0 as usize] = below;
+        h.slots[below.slot.0 as usize] = SlabSlot::full(at);
         at = child;
-        n += 1;
+        swaps += 1;
     };
-    let i = last.0 as usize;
-    let s = e.slot.0 as usize;
-    g.entries[i] = e;
-    g.slots[s] = SlabSlot {
-        state: SlotState::Full(last),
-    };
+    h.entries[last.0 as usize] = e;
+    h.slots[e.slot.0 as usize] = SlabSlot::full(last);
     Moved {
-        heap: g,
+        heap: h,
         at: last,
-        swaps: n,
+        swaps,
     }
 }

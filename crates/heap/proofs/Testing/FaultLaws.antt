@@ -1,17 +1,13 @@
 -- The heap test's rules, turn by turn: what one turn of a scan over positions or slots makes of its rule.
 -- Assumes nothing.
-use mathlib.Core.Path.{◌≡◌, refl, sym, ap, ◌∙◌}
+use mathlib.Core.Path.{◌≡◌, sym, ap, ◌∙◌}
 use mathlib.Core.Bool.{Bool, true, false, not}
 use mathlib.Core.Option.{Option, none, some}
-use Prim.Native.Nat.{ℕ, zero, suc, ◌+◌, ◌-◌, ◌<◌, ◌≤◌}
-use native.Mathlib.Numerals.{add-one}
+use Prim.Native.Nat.{ℕ, ◌+◌, ◌-◌, ◌<◌, ◌≤◌}
 use native.Mathlib.Omega.{arith}
 use lib.ListN.{get_or, take}
 use lib.Seq.{get_or-take}
 use borrow.Author.Tests.{lt-ltb, le-ltb, eq-eqb}
-use Rattle.std.specs.List.{count_by}
-use Rattle.std.proofs.lemmas.List.Sums.{count_by_more_yes, count_by_more_no}
-use Rattle.theory.specs.Counting.{tally, count}
 use Rattle.theory.specs.First.{first_bad}
 use Rattle.theory.specs.Order.{parent}
 use Rattle.theory.proofs.First.{first_goes, first_here, first_done}
@@ -20,7 +16,6 @@ use Rattle.refusals.specs.Faults.{fault_by}
 use Rattle.heap.specs.declared.Pos.{Pos}
 use Rattle.heap.specs.declared.Slot.{Slot}
 use Rattle.heap.specs.declared.SlotState.TheVariants.{Full, Empty}
-use Rattle.heap.specs.declared.SlabSlot.{SlabSlot}
 use Rattle.heap.specs.declared.Heap.{Heap}
 use Rattle.heap.specs.Rules.{no_slot, entry_at, state_at, slot_at, before}
 use Rattle.heap.specs.Faults.{is_full, names, full_at, empty_at, position_ok, order_ok}

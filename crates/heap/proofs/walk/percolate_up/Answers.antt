@@ -38,8 +38,8 @@ pub loop-at-init : goal.loop-at-init
 unfolding put_at
 loop-at-init c = record { range = c.requires.slots_in; long = search (rules, unmapped); room = c.requires.slots_in.len_in; as_long = refl; here = c.requires.from_lt_len; left = search rules; rest = simp sub-zero }
 
-pub bounds-g-t : goal.bounds-g-t
-bounds-g-t c = omega (arith, parent_in c.loop-at.invariant c.loop-at-test.true, own_in c.loop-at.invariant)
+pub bounds-h-above : goal.bounds-h-above
+bounds-h-above c = omega (arith, parent_in c.loop-at.invariant c.loop-at-test.true, own_in c.loop-at.invariant)
 
 -- where the loop goes on, the parent gives way into the hole
 pub loop-at-preserved : goal.loop-at-preserved
@@ -52,34 +52,35 @@ loop-at-preserved c =
     let p = parent l.at.0 in
     let w = within v in
     let n : p ≡ l.at.0 → ⊥ = λ q. omega (arith, b, q) in
-    record {
-      range = step_in l.g l.at.0 p e w.1 w.0 (omega (arith, w)) n v.range;
+    rw c.full.ensures
+    (record {
+      range = step_in l.h l.at.0 p e w.1 w.0 (omega (arith, w)) n v.range;
       long = simp length-set v.long;
       room = v.room;
       as_long = v.as_long;
       here = v.here;
       left = omega (arith, v.left, b);
       rest =
-          ap (λ (x : Heap). up_from (c.args.from.0 - (l.n + 1)) x p (l.n + 1)) (sym (hole_step l.g l.at.0 p e w.1 n))
-          ∙ sym (up_step _ _ (put_at l.g l.at.0 e) l.at.0 l.n (omega (arith, v.left, b))
-          (hole_rises l.g l.at.0 e w.1 b ∙ sym c.before-in-loop-at.ensures ∙ c.if-not-before.false))
+          ap (λ (x : Heap). up_from (c.args.from.0 - (l.swaps + 1)) x p (l.swaps + 1)) (sym (hole_step l.h l.at.0 p e w.1 n))
+          ∙ sym (up_step _ _ (put_at l.h l.at.0 e) l.at.0 l.swaps (omega (arith, v.left, b))
+          (hole_rises l.h l.at.0 e w.1 b ∙ sym c.before-in-loop-at.ensures ∙ c.if-not-before.false))
           ∙ v.rest;
-    }
+    })
 
-pub bounds-g-s : goal.bounds-g-s
-bounds-g-s c = own_in c.loop-at.invariant
+pub bounds-h-e : goal.bounds-h-e
+bounds-h-e c = own_in c.loop-at.invariant
 
 -- where the loop ends, at the head or below a parent that is no larger, the carried entry does not rise
-stays : (c : goal.After-struct_known-3-1) → rises_at (put_at c.loop-at.g c.loop-at.at.0 c.args.e) c.loop-at.at.0 ≡ false
+stays : (c : goal.After-struct_known-3-1) → rises_at (put_at c.loop-at.h c.loop-at.at.0 c.args.e) c.loop-at.at.0 ≡ false
 stays c =
     let l = c.loop-at in
     elim c.loop-at-test.branch [
       | else-loop-at-test w ↦ top_stays _ l.at.0 (omega (arith, w.loop-at-test.false))
-      | then-loop-at-test+then-not-before w ↦ hole_rises l.g l.at.0 _ (within l.invariant).1 w.loop-at-test.true ∙ sym w.before-in-loop-at.ensures ∙ w.if-not-before.true
+      | then-loop-at-test+then-not-before w ↦ hole_rises l.h l.at.0 _ (within l.invariant).1 w.loop-at-test.true ∙ sym w.before-in-loop-at.ensures ∙ w.if-not-before.true
     ]
 
 pub returns : goal.returns
 unfolding put_at
 returns c =
     let l = c.loop-at in
-    sym (up_stop _ (put_at l.g l.at.0 c.args.e) l.at.0 l.n (stays c)) ∙ l.invariant.rest
+    rw c.full-2.ensures (sym (up_stop _ (put_at l.h l.at.0 c.args.e) l.at.0 l.swaps (stays c)) ∙ l.invariant.rest)

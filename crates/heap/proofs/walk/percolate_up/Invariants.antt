@@ -22,7 +22,7 @@ pub record Up (from : ℕ) (h : Heap) (e : Entry) (g : Heap) (i n : ℕ) : Type 
   pub rest : up_from (from - n) (put_at g i e) i n ≡ up_from from (put_at h from e) from 0
 
 abbrev pub invariant-loop-at : goal.invariant-loop-at
-invariant-loop-at l = Up l.initial.at.0 l.initial.g l.e l.g l.at.0 l.n
+invariant-loop-at l = Up l.initial.at.0 l.initial.h l.e l.h l.at.0 l.swaps
 
 abbrev pub decreases-loop-at : goal.decreases-loop-at
 decreases-loop-at l = l.at.0
