@@ -1,11 +1,14 @@
 -- The rules of the calls: what each makes of any set, its refusals in their order, and `step`, which is all of them.
 -- Assumes nothing.
-use Rattle.std.specs.Prelude.{Bool, cond, ◌&&◌, List, [], ◌∷◌, ℕ, ltb, leb, eqb, length}
+use Rattle.std.specs.Prelude as Std
+use Rattle.std.specs.Prelude.{Bool, cond, ◌&&◌, List, [], ◌∷◌, ℕ, ltb, leb, eqb, length, Result, ⊤}
 use Rattle.std.proofs.Math.Option.{Option, none, some}
 use Rattle.refusals.specs.declared.fault.Fault.{Fault}
 use Rattle.refusals.specs.declared.Refusal.{Refusal}
 use Rattle.refusals.specs.declared.Refusal.TheVariants.{Unsound, Closed, DeadHandle, Full, ShortList, NotFired}
 use Rattle.refusals.specs.Answer.{Answer, accepted, refused, unsound, refuse, Outcome, Nothing, kept}
+use Rattle.refusals.specs.declared.outcome.Outcome as Code
+use Rattle.refusals.specs.Outcomes.{said_by, told_by}
 use Rattle.heap.specs.Capacity.{cap}
 use Rattle.heap.specs.declared.Entry.{Entry}
 use Rattle.heap.specs.Calls.{peek_sound}
@@ -20,13 +23,9 @@ use Rattle.state.specs.Faults.{fault_of}
 pub use Rattle.timers.specs.Values.{Value, nothing, handle, counts, wake, polled, time}
 use Rattle.timers.specs.declared.Call.{Call}
 use Rattle.timers.specs.declared.Call.TheVariants as C
-use Rattle.timers.specs.declared.Guard.{Guard}
-use Rattle.timers.specs.declared.Guard.TheVariants as G
-use Rattle.timers.specs.declared.Door.{Door}
-use Rattle.timers.specs.declared.Door.TheVariants as D
+pub use Rattle.timers.specs.declared.Timing.{Timing}
 use Rattle.timers.specs.declared.Reply.{Reply}
 use Rattle.timers.specs.declared.Reply.TheVariants as R
-use Rattle.timers.specs.declared.After.{After}
 use Rattle.moves.specs.Rules.{touched_of, lowest_free, drained_of, Ring, advanced_of, closed_of}
 
 -- a set with the list that was lent
@@ -60,10 +59,6 @@ unfoldable pub open_of : Set → Answer Nothing
 open_of s = judged (fault_of s) (cond s.closed (refuse Closed) (accepted tt)) (λ x. refuse (Unsound x))
 
 -- the word and the deadline of a live timer
-pub record Timing : Type 0 where
-  pub word : ℕ
-  pub due : ℕ
-
 abbrev pub timing_of : Life → Option Timing
 timing_of Life.Free = none
 timing_of (Life.Live w d) = some (record { word = w; due = d })
@@ -199,27 +194,30 @@ after [] s = s
 after (c ∷ cs) s = after cs (step s c.0 c.1).state.set
 
 -- what the code's guards, doors and replies say
-abbrev pub said_guard : Guard → Answer Nothing
-said_guard G.Open = accepted tt
-said_guard (G.Refused r) = refuse r
+abbrev pub said_guard : Result ⊤ Refusal → Answer Nothing
+said_guard = said_by (λ (u : ⊤). u)
 
-abbrev pub said_door : Door → Answer Timing
-said_door (D.Refused r) = refuse r
-said_door (D.Live w d) = accepted (record { word = w; due = d })
+abbrev pub said_door : Result Timing Refusal → Answer Timing
+said_door = said_by (λ (t : Timing). t)
 
-abbrev pub said : Reply → Answer Value
-said (R.Added h) = accepted (handle h)
-said R.Done = accepted nothing
-said (R.Ran n m) = accepted (counts n m)
-said (R.WakeAt t) = accepted (wake (some t))
-said R.NoWake = accepted (wake none)
-said (R.Found p) = accepted (polled (poll_by (Word.said p)))
-said (R.Ticked t) = accepted (time t)
-said (R.Refused r) = refuse r
+abbrev pub wake_of : Std.Option ℕ → Option ℕ
+wake_of Std.None = none
+wake_of (Std.Some t) = some t
+
+abbrev pub value_of : Reply → Value
+value_of (R.Added h) = handle h
+value_of R.Done = nothing
+value_of (R.Ran n m) = counts n m
+value_of (R.Wake t) = wake (wake_of t)
+value_of (R.Found p) = polled (poll_by (Word.said p))
+value_of (R.Ticked t) = time t
+
+abbrev pub said : Result Reply Refusal → Answer Value
+said = said_by value_of
 
 -- the set handed back, and what is said; with the lent list as it is then
-abbrev pub told : After → Outcome Set Value
-told r = record { state = r.set; answer = said r.reply }
+abbrev pub told : Code.Outcome Set Reply → Outcome Set Value
+told = told_by value_of
 
-abbrev pub told_with : After → List ℕ → Outcome Lent Value
-told_with r l = record { state = lent r.set l; answer = said r.reply }
+abbrev pub told_with : Code.Outcome Set Reply → List ℕ → Outcome Lent Value
+told_with r l = record { state = lent r.state l; answer = said r.answer }

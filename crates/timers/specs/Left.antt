@@ -1,12 +1,15 @@
 -- The two queries: how long a timer has to go, and the least of that over the timers that have not fired. Each reads a set and a
 -- reading, and changes nothing.
 -- Assumes nothing.
-use Rattle.std.specs.Prelude.{cond, ℕ, ltb, ℤ, pos, ◌-ℤ◌}
+use Rattle.std.specs.Prelude.{Result, Some, None, cond, ℕ, ltb, ℤ, pos, ◌-ℤ◌}
+use Rattle.std.specs.Prelude as Std
 use Rattle.std.proofs.Math.Option.{Option, none, some}
 use Rattle.std.specs.Int.Signed.{lt_z}
 use Rattle.theory.specs.Least.{through, lesser, least_below}
+use Rattle.refusals.specs.declared.Refusal.{Refusal}
 use Rattle.refusals.specs.declared.Refusal.TheVariants.{Unsound, Closed}
 use Rattle.refusals.specs.Answer.{Answer, accepted, refused, unsound, refuse}
+use Rattle.refusals.specs.Outcomes.{said_by}
 use Rattle.refusals.specs.Times.{signed, difference_of}
 use Rattle.heap.specs.Capacity.{cap}
 use Rattle.word.specs.Rules.{fired_in}
@@ -16,10 +19,6 @@ use Rattle.state.specs.declared.Set.{Set}
 use Rattle.state.specs.declared.Handle.{Handle}
 use Rattle.state.specs.State.{timer_at}
 use Rattle.state.specs.Faults.{fault_of}
-use Rattle.timers.specs.declared.left.Least.{Least}
-use Rattle.timers.specs.declared.left.Least.TheVariants as L
-use Rattle.timers.specs.declared.left.Earliest.{Earliest}
-use Rattle.timers.specs.declared.left.Earliest.TheVariants as S
 use Rattle.timers.specs.Calls.{judged, Timing, door_of}
 
 -- TIME LEFT: the deadline that a live timer has, fired or not, minus the reading: zero at the deadline, below zero once it is
@@ -65,10 +64,12 @@ least_left_of s N =
     (λ x. refuse (Unsound x))
 
 -- what the code's answer says
-abbrev pub said_least : Least → Answer (Option ℤ)
-said_least L.Nothing = accepted none
-said_least (L.Nanos z) = accepted (some z)
-said_least (L.Refused r) = refuse r
+abbrev pub found_by : {A : Type 0} → Std.Option A → Option A
+found_by None = none
+found_by (Some a) = some a
+
+abbrev pub said_least : Result (Std.Option ℤ) Refusal → Answer (Option ℤ)
+said_least = said_by found_by
 
 -- and the functions inside: the earliest such deadline, which the code looks for
 abbrev pub lesser_due : Option ℕ → Option ℕ → Option ℕ
@@ -77,6 +78,5 @@ lesser_due = lesser ltb
 unfoldable pub soonest_of : Set → Option ℕ
 soonest_of s = least_below ltb (pending_at s) cap
 
-abbrev pub said_earliest : Earliest → Option ℕ
-said_earliest S.Nothing = none
-said_earliest (S.At d) = some d
+abbrev pub said_earliest : Std.Option ℕ → Option ℕ
+said_earliest = found_by

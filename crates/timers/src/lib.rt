@@ -6,14 +6,14 @@
 
 pub mod left;
 
-ghost use Rattle.timers.specs.Promises.{Adds, Resets, Cancels, Drains, Advances, Turns, Wakes, Polls, Closes, Ticks, Restarts, Performs, Guards, Opens, Enters, Admits, Finds, Refuses, ResetsTo};
+ghost use Rattle.timers.specs.Promises.{Adds, Resets, Cancels, Drains, Advances, Turns, Wakes, Polls, Closes, Ticks, Restarts, Performs, Guards, Opens, Enters, Admits, Finds, ResetsTo};
 ghost use Rattle.std.specs.Prelude.{◌<◌};
 ghost use Rattle.heap.specs.Capacity.{cap};
 
 use interval::Policy;
+use moves::rings::Ran;
 use refusals::Refusal;
-use refusals::fault::Verdict;
-use refusals::time::Time;
+use refusals::outcome::Outcome;
 use state::{Handle, Life, Set};
 use word::Polled;
 
@@ -65,276 +65,208 @@ pub enum Reply {
     // advance and turn: how many timers were reported, and how many entries popped
     Ran { reported: usize, popped: usize },
     // next wake: the head's deadline, or none
-    WakeAt(u64),
-    NoWake,
+    Wake(Option<u64>),
     // poll
     Found(Polled),
     // tick: the deadline that it answers
     Ticked(u64),
-    Refused(Refusal),
 }
 
-// The set after a call, or as it was where the call is refused.
+// The word and the deadline of a live timer.
 #[derive(Clone, Copy)]
-pub struct After {
-    pub set: Set,
-    pub reply: Reply,
-}
-
-// What the tests of a set say to a call.
-#[derive(Clone, Copy)]
-pub enum Guard {
-    Open,
-    Refused(Refusal),
-}
-
-// What the door says to a call on a handle: why it is refused, or the word and the deadline of the live timer.
-#[derive(Clone, Copy)]
-pub enum Door {
-    Refused(Refusal),
-    Live { word: u32, due: u64 },
+pub struct Timing {
+    pub word: u32,
+    pub due: u64,
 }
 
 // Every call begins here: whether it may be made on a set, or why not.
-fn guarded(s: Set) -> Guard
+fn guarded(s: Set) -> Result<(), Refusal>
     ensures { Guards s result }
 {
-    match state::fault::first_fault(s) {
-        Verdict::Sound => Guard::Open,
-        Verdict::Broken(f) => Guard::Refused(Refusal::Unsound(f)),
-    }
+    state::fault::first_fault(s).map_err(Refusal::Unsound)
 }
 
 // A call that a closed set refuses begins here.
-fn opened(s: Set) -> Guard
+fn opened(s: Set) -> Result<(), Refusal>
     ensures { Opens s result }
 {
-    if let Guard::Refused(why) = guarded(s) {
-        return Guard::Refused(why);
-    }
+    guarded(s)?;
     if s.closed {
-        return Guard::Refused(Refusal::Closed);
+        return Err(Refusal::Closed);
     }
-    Guard::Open
+    Ok(())
 }
 
 // The one door of the calls on a handle: the set must be sound, then open, and then the handle live. It hands no set back.
-fn entered(s: Set, handle: Handle) -> Door
+fn entered(s: Set, handle: Handle) -> Result<Timing, Refusal>
     ensures { Enters s handle result }
 {
-    if let Guard::Refused(why) = opened(s) {
-        return Door::Refused(why);
-    }
+    opened(s)?;
     named(s, handle)
 }
 
 // The same door for a call that a closed set answers too.
-fn met(s: Set, handle: Handle) -> Door
+fn met(s: Set, handle: Handle) -> Result<Timing, Refusal>
     ensures { Admits s handle result }
 {
-    if let Guard::Refused(why) = guarded(s) {
-        return Door::Refused(why);
-    }
+    guarded(s)?;
     named(s, handle)
 }
 
 // Adds a timer at the lowest free place.
-pub fn add(s: Set, due: u64) -> After
+pub fn add(s: Set, due: u64) -> Outcome<Set, Reply>
     ensures { Adds s due result }
 {
-    if let Guard::Refused(why) = opened(s) {
-        return refused(s, why);
+    if let Err(why) = opened(s) {
+        return Outcome::kept(s, why);
     }
-    match moves::list::lowest_free(s) {
-        moves::list::Spot::Nowhere => refused(s, Refusal::Full),
-        moves::list::Spot::At(place) => {
-            let p = place.0 as usize;
-            let t = s.timers[p];
-            let g = moves::list::touched(s, place, Life::Live { word: 0, due });
-            After {
-                set: g,
-                reply: Reply::Added(Handle {
-                    place,
-                    uses: t.uses,
-                }),
-            }
-        }
-    }
+    let Some(place) = moves::list::lowest_free(s) else {
+        return Outcome::kept(s, Refusal::Full);
+    };
+    let uses = s.timers[place.0 as usize].uses;
+    Outcome::given(
+        moves::list::touched(s, place, Life::Live { word: 0, due }),
+        Reply::Added(Handle { place, uses }),
+    )
 }
 
 // Sets a live timer to another deadline, fired or not.
-pub fn reset(s: Set, handle: Handle, due: u64) -> After
+pub fn reset(s: Set, handle: Handle, due: u64) -> Outcome<Set, Reply>
     ensures { Resets s handle due result }
 {
     match entered(s, handle) {
-        Door::Refused(why) => return refused(s, why),
-        Door::Live { word, due: _ } => After {
-            set: reset_to(s, handle, word, due),
-            reply: Reply::Done,
-        },
+        Ok(t) => Outcome::given(reset_to(s, handle, t.word, due), Reply::Done),
+        Err(why) => Outcome::kept(s, why),
     }
 }
 
 // Cancels a live timer: its handle is dead from now on.
-pub fn cancel(s: Set, handle: Handle) -> After
+pub fn cancel(s: Set, handle: Handle) -> Outcome<Set, Reply>
     ensures { Cancels s handle result }
 {
     match entered(s, handle) {
-        Door::Refused(why) => return refused(s, why),
-        Door::Live { word, due: _ } => {
-            let g = moves::list::touched(s, handle.place, Life::Cancelled { word });
-            After {
-                set: g,
-                reply: Reply::Done,
-            }
-        }
+        Ok(t) => Outcome::given(
+            moves::list::touched(s, handle.place, Life::Cancelled { word: t.word }),
+            Reply::Done,
+        ),
+        Err(why) => Outcome::kept(s, why),
     }
 }
 
 // Makes every waiting update, the newest first.
-pub fn drain(s: Set) -> After
+pub fn drain(s: Set) -> Outcome<Set, Reply>
     ensures { Drains s result }
 {
-    if let Guard::Refused(why) = opened(s) {
-        return refused(s, why);
-    }
-    After {
-        set: moves::updates::drained(s),
-        reply: Reply::Done,
+    match opened(s) {
+        Ok(()) => Outcome::given(moves::updates::drained(s), Reply::Done),
+        Err(why) => Outcome::kept(s, why),
     }
 }
 
 // Reports the timers whose entries are due at the reading, without a drain.
-pub fn advance(s: Set, reading: u64, list: &mut [u64]) -> After
+pub fn advance(s: Set, reading: u64, list: &mut [u64]) -> Outcome<Set, Reply>
     ensures { Advances s reading list.old result list.new }
 {
-    if let Guard::Refused(why) = opened(s) {
-        return refused(s, why);
+    if let Err(why) = opened(s) {
+        return Outcome::kept(s, why);
     }
     if list.len() < heap::CAP {
-        return refused(s, Refusal::ShortList);
+        return Outcome::kept(s, Refusal::ShortList);
     }
-    let r = moves::rings::advanced(s, reading, list);
-    let g = r.set;
-    After {
-        set: g,
-        reply: Reply::Ran {
-            reported: r.reported,
-            popped: r.popped,
-        },
-    }
+    let Ran {
+        set,
+        reported,
+        popped,
+    } = moves::rings::advanced(s, reading, list);
+    Outcome::given(set, Reply::Ran { reported, popped })
 }
 
 // A drain, then an advance: reports the timers that are owed and due.
-pub fn turn(s: Set, reading: u64, list: &mut [u64]) -> After
+pub fn turn(s: Set, reading: u64, list: &mut [u64]) -> Outcome<Set, Reply>
     ensures { Turns s reading list.old result list.new }
 {
-    if let Guard::Refused(why) = opened(s) {
-        return refused(s, why);
+    if let Err(why) = opened(s) {
+        return Outcome::kept(s, why);
     }
     if list.len() < heap::CAP {
-        return refused(s, Refusal::ShortList);
+        return Outcome::kept(s, Refusal::ShortList);
     }
-    let r = moves::rings::advanced(moves::updates::drained(s), reading, list);
-    let g = r.set;
-    After {
-        set: g,
-        reply: Reply::Ran {
-            reported: r.reported,
-            popped: r.popped,
-        },
-    }
+    let Ran {
+        set,
+        reported,
+        popped,
+    } = moves::rings::advanced(moves::updates::drained(s), reading, list);
+    Outcome::given(set, Reply::Ran { reported, popped })
 }
 
 // When the head of the heap is due, if there is one.
-pub fn next_wake(s: Set) -> After
+pub fn next_wake(s: Set) -> Outcome<Set, Reply>
     ensures { Wakes s result }
 {
-    if let Guard::Refused(why) = guarded(s) {
-        return refused(s, why);
-    }
-    let h = s.heap;
-    match heap::peek_sound(h) {
-        heap::Peeked::Head(e) => After {
-            set: s,
-            reply: Reply::WakeAt(e.at),
-        },
-        heap::Peeked::Nothing => After {
-            set: s,
-            reply: Reply::NoWake,
-        },
-        heap::Peeked::Refused(_) => After {
-            set: s,
-            reply: Reply::NoWake,
-        },
+    match guarded(s) {
+        Ok(()) => Outcome::given(s, Reply::Wake(heap::peek_sound(s.heap).map(|e| e.at))),
+        Err(why) => Outcome::kept(s, why),
     }
 }
 
 // Whether a live timer has fired, is gone or is pending.
-pub fn poll(s: Set, handle: Handle) -> After
+pub fn poll(s: Set, handle: Handle) -> Outcome<Set, Reply>
     ensures { Polls s handle result }
 {
     match met(s, handle) {
-        Door::Refused(why) => return refused(s, why),
-        Door::Live { word, due: _ } => After {
-            set: s,
-            reply: Reply::Found(word::poll(word)),
-        },
+        Ok(t) => Outcome::given(s, Reply::Found(word::poll(t.word))),
+        Err(why) => Outcome::kept(s, why),
     }
 }
 
 // Closes the set: every timer that waits or has an entry is gone.
-pub fn close(s: Set) -> After
+pub fn close(s: Set) -> Outcome<Set, Reply>
     ensures { Closes s result }
 {
-    if let Guard::Refused(why) = opened(s) {
-        return refused(s, why);
-    }
-    After {
-        set: moves::shut::closed(s),
-        reply: Reply::Done,
+    match opened(s) {
+        Ok(()) => Outcome::given(moves::shut::closed(s), Reply::Done),
+        Err(why) => Outcome::kept(s, why),
     }
 }
 
 // A tick of an interval's timer that has fired: answers its deadline, and sets it to the next one.
-pub fn tick(s: Set, handle: Handle, policy: Policy, period: u64, reading: u64) -> After
+pub fn tick(
+    s: Set,
+    handle: Handle,
+    policy: Policy,
+    period: u64,
+    reading: u64,
+) -> Outcome<Set, Reply>
     ensures { Ticks s handle policy period reading result }
 {
-    match entered(s, handle) {
-        Door::Refused(why) => return refused(s, why),
-        Door::Live { word, due } => {
-            if !word::fired(word) {
-                return refused(s, Refusal::NotFired);
-            }
-            match interval::next_deadline(policy, due, period, reading) {
-                Time::At(next) => After {
-                    set: reset_to(s, handle, word, next),
-                    reply: Reply::Ticked(due),
-                },
-                Time::Refused(why) => refused(s, why),
-            }
-        }
+    let t = match entered(s, handle) {
+        Ok(t) => t,
+        Err(why) => return Outcome::kept(s, why),
+    };
+    if !word::fired(t.word) {
+        return Outcome::kept(s, Refusal::NotFired);
+    }
+    match interval::next_deadline(policy, t.due, period, reading) {
+        Ok(next) => Outcome::given(reset_to(s, handle, t.word, next), Reply::Ticked(t.due)),
+        Err(why) => Outcome::kept(s, why),
     }
 }
 
 // Resets an interval's timer to a period after the reading, fired or not.
-pub fn restart(s: Set, handle: Handle, period: u64, reading: u64) -> After
+pub fn restart(s: Set, handle: Handle, period: u64, reading: u64) -> Outcome<Set, Reply>
     ensures { Restarts s handle period reading result }
 {
     match entered(s, handle) {
-        Door::Refused(why) => return refused(s, why),
-        Door::Live { word, due: _ } => match interval::restarted(period, reading) {
-            Time::At(next) => After {
-                set: reset_to(s, handle, word, next),
-                reply: Reply::Done,
-            },
-            Time::Refused(why) => refused(s, why),
+        Ok(t) => match interval::restarted(period, reading) {
+            Ok(next) => Outcome::given(reset_to(s, handle, t.word, next), Reply::Done),
+            Err(why) => Outcome::kept(s, why),
         },
+        Err(why) => Outcome::kept(s, why),
     }
 }
 
 // Any call: its own function makes it.
-pub fn perform(s: Set, call: Call, list: &mut [u64]) -> After
+pub fn perform(s: Set, call: Call, list: &mut [u64]) -> Outcome<Set, Reply>
     ensures { Performs s call list.old result list.new }
 {
     match call {
@@ -362,23 +294,16 @@ pub fn perform(s: Set, call: Call, list: &mut [u64]) -> After
 }
 
 // What the handle itself says, which is the second half of both doors: a dead one refuses the call.
-fn named(s: Set, handle: Handle) -> Door
+fn named(s: Set, handle: Handle) -> Result<Timing, Refusal>
     ensures { Finds s handle result }
 {
-    let p = handle.place.0 as usize;
-    if heap::CAP <= p {
-        return Door::Refused(Refusal::DeadHandle);
-    }
-    let t = s.timers[p];
-    if t.uses != handle.uses {
-        return Door::Refused(Refusal::DeadHandle);
-    }
-    let l = t.life;
-    match l {
-        Life::Free => Door::Refused(Refusal::DeadHandle),
-        Life::Live { word, due } => Door::Live { word, due },
-        Life::Cancelled { word: _ } => Door::Refused(Refusal::DeadHandle),
-        Life::Retired => Door::Refused(Refusal::DeadHandle),
+    let t = s
+        .timers
+        .get(handle.place.0 as usize)
+        .ok_or(Refusal::DeadHandle)?;
+    match t.life {
+        Life::Live { word, due } if t.uses == handle.uses => Ok(Timing { word, due }),
+        _ => Err(Refusal::DeadHandle),
     }
 }
 
@@ -387,16 +312,6 @@ fn reset_to(s: Set, handle: Handle, word: u32, due: u64) -> Set
     requires { handle.place.0 < cap }
     ensures { ResetsTo s handle word due result }
 {
-    let w = word::after_reset(word);
-    moves::list::touched(s, handle.place, Life::Live { word: w, due })
-}
-
-// A call refused: the set as it was handed in.
-fn refused(s: Set, why: Refusal) -> After
-    ensures { Refuses s why result }
-{
-    After {
-        set: s,
-        reply: Reply::Refused(why),
-    }
+    let word = word::after_reset(word);
+    moves::list::touched(s, handle.place, Life::Live { word, due })
 }

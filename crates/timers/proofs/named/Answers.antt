@@ -1,30 +1,23 @@
 -- A handle names its place's timer where the place is in range, the use number is the place's, and the timer is live.
 -- Assumes nothing.
-use borrow.Author.Tests.{lt-ltb, le-ltb, eq-eqb, ne_eqb}
+use native.Mathlib.Omega.{arith}
+use borrow.Author.Tests.{tests}
+use Rattle.std.proofs.lemmas.Grind.{common_steps}
 use Rattle.timers.specs.Calls.{live_at}
 use Rattle.timers.proofs.named.Goals as goal
 
-pub returns-then-p-ge-CAP : goal.returns-then-p-ge-CAP
+pub returns-in_err-t : goal.returns-in_err-t
 unfolding live_at
-returns-then-p-ge-CAP c = rw (le-ltb _ _ c.if-p-ge-CAP.true)
-
-pub returns-then-t-handle : goal.returns-then-t-handle
-unfolding live_at
-returns-then-t-handle c = rw (lt-ltb _ _ c.if-p-ge-CAP.false, ne_eqb _ _ c.if-t-handle.true)
-
-pub returns-in-Free : goal.returns-in-Free
-unfolding live_at
-returns-in-Free c = rw (lt-ltb _ _ c.if-p-ge-CAP.false, eq-eqb _ _ c.if-t-handle.false, c.in-Free.is)
+returns-in_err-t c = grind (arith, tests, common_steps)
 
 pub returns-in-Live : goal.returns-in-Live
 unfolding live_at
-returns-in-Live c =
-    rw (lt-ltb _ _ c.if-p-ge-CAP.false, eq-eqb _ _ c.if-t-handle.false, c.in-Live.is)
+returns-in-Live c = grind (arith, tests, common_steps)
 
-pub returns-in-Cancelled : goal.returns-in-Cancelled
+pub returns-in_default : goal.returns-in_default
 unfolding live_at
-returns-in-Cancelled c = rw (lt-ltb _ _ c.if-p-ge-CAP.false, eq-eqb _ _ c.if-t-handle.false, c.in-Cancelled.is)
+returns-in_default c = grind (arith, tests, common_steps)
 
-pub returns-in-Retired : goal.returns-in-Retired
+pub returns-in_default-2 : goal.returns-in_default-2
 unfolding live_at
-returns-in-Retired c = rw (lt-ltb _ _ c.if-p-ge-CAP.false, eq-eqb _ _ c.if-t-handle.false, c.in-Retired.is)
+returns-in_default-2 c = grind (arith, tests, common_steps)

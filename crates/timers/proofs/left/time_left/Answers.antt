@@ -1,18 +1,14 @@
 -- The time left is what the door says: its refusal, or the difference from the deadline of the live timer.
 -- Assumes nothing.
-use mathlib.Core.Path.{sym, ap, ◌∙◌}
-use Rattle.timers.specs.Calls.{said_door}
-use Rattle.timers.specs.Left.{time_left_by, time_left_of}
-use Rattle.timers.proofs.Shortest.{left_refused}
+use native.Mathlib.Omega.{arith}
+use Rattle.refusals.proofs.Refusing.{not_both}
+use Rattle.timers.specs.Left.{time_left_of}
 use Rattle.timers.proofs.left.time_left.Goals as goal
 
-pub returns-in-Refused : goal.returns-in-Refused
+pub returns-in_err-t : goal.returns-in_err-t
 unfolding time_left_of
-returns-in-Refused c =
-    left_refused c.args.reading c.in-Refused.why
-    ∙ ap (time_left_by c.args.reading) (sym (ap said_door c.in-Refused.is) ∙ c.entered.ensures)
+returns-in_err-t c = grind (arith, not_both)
 
-pub returns-in-Live : goal.returns-in-Live
+pub returns : goal.returns
 unfolding time_left_of
-returns-in-Live c =
-    c.difference.ensures ∙ ap (time_left_by c.args.reading) (sym (ap said_door c.in-Live.is) ∙ c.entered.ensures)
+returns c = grind arith
