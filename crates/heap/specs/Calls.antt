@@ -104,8 +104,7 @@ peek_by a (unsound f) = unsound f
 abbrev pub peek_of : Heap → Answer (Option Entry)
 peek_of h = peek_by (peek_sound h) (guard_of h)
 
--- what the code's answers say: a push its slot and its swaps, a removal its entry and its swaps, a pop and a peek what is there,
--- if anything
+-- what the code's answers say: a guard that the call may be made, a push its slot and its swaps, a removal its entry and its swaps
 abbrev pub said_guard : Result ⊤ Refusal → Answer Nothing
 said_guard = said_by (λ (u : ⊤). u)
 
@@ -115,6 +114,7 @@ said_push = said_by (λ (r : Pushed). (r.slot, r.swaps))
 abbrev pub said_remove : Result Removed Refusal → Answer Off
 said_remove = said_by (λ (r : Removed). some (r.entry, r.swaps))
 
+-- a pop the same of the head, and a peek the head itself, if there is one
 abbrev pub off_by : Std.Option Removed → Off
 off_by Std.None = none
 off_by (Std.Some r) = some (r.entry, r.swaps)

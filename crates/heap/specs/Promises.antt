@@ -1,6 +1,10 @@
 -- What each function on the heap promises of its answer r.
 -- Assumes nothing.
 use Rattle.std.specs.Prelude.{◌≡◌, Bool, ℕ, Option, Result, Ok, ⊤}
+use Rattle.refusals.specs.declared.fault.Fault.{Fault}
+use Rattle.refusals.specs.declared.Refusal.{Refusal}
+use Rattle.refusals.specs.declared.outcome.Outcome.{Outcome}
+use Rattle.refusals.specs.Faults.{said_verdict}
 use Rattle.heap.specs.Capacity.{cap}
 use Rattle.heap.specs.declared.Slot.{Slot}
 use Rattle.heap.specs.declared.Place.{Place}
@@ -8,10 +12,6 @@ use Rattle.heap.specs.declared.Entry.{Entry}
 use Rattle.heap.specs.declared.Heap.{Heap}
 use Rattle.heap.specs.declared.Pushed.{Pushed}
 use Rattle.heap.specs.declared.Removed.{Removed}
-use Rattle.refusals.specs.declared.fault.Fault.{Fault}
-use Rattle.refusals.specs.declared.Refusal.{Refusal}
-use Rattle.refusals.specs.declared.outcome.Outcome.{Outcome}
-use Rattle.refusals.specs.Faults.{said_verdict}
 use Rattle.heap.specs.Rules.{before}
 use Rattle.heap.specs.Faults.{fault_of, consistent_of}
 use Rattle.heap.specs.Calls.{fresh_of, height_of, guard_of, said_guard, push_of, remove_of, pop_of, peek_of, push_sound, remove_sound, pop_sound, peek_sound, said_peek, told_push, told_remove, told_pop}

@@ -1,16 +1,11 @@
 -- `fault::full_count` is right: after some slots the number is the count of the full ones among them.
 -- Assumes nothing.
-use mathlib.Core.Path.{◌≡◌, refl, sym, ◌∙◌, ap}
+use mathlib.Core.Path.{refl, sym, ◌∙◌}
 use Prim.Native.Nat.{◌<◌}
 use native.Mathlib.Omega.{arith}
-use borrow.Author.Rules.{rules}
-use lib.ListN.{length}
-use lib.Seq.{length-take-le}
 use Rattle.std.proofs.lemmas.List.{length-take}
 use Rattle.theory.specs.Counting.{count}
 use Rattle.theory.proofs.Counting.{count_yes, count_no, count_le}
-use Rattle.theory.proofs.Stores.{unmapped}
-use Rattle.heap.specs.Capacity.{cap}
 use Rattle.heap.specs.Faults.{full_at}
 use Rattle.heap.proofs.Testing.FaultLaws.{full_by}
 use Rattle.heap.proofs.fault.full_count.Goals as goal
@@ -32,11 +27,3 @@ loop-slot-preserved c =
       | then-is_full w ↦ omega (arith, w.n-is, count_yes (full_at h) l.slot-index (full_by h h.made l.slot-index b (sym c.is_full.ensures ∙ w.if-is_full.true)))
       | else-is_full w ↦ omega (arith, w.n-is, count_no (full_at h) l.slot-index (full_by h h.made l.slot-index b (sym c.is_full.ensures ∙ w.if-is_full.false)))
     ]
-
-pub returns : goal.returns
-returns c =
-    let h = c.args.h in
-    let l = c.loop-slot in
-    let n : length h.slots ≡ cap = search (rules, unmapped) in
-    let e : l.slot-index ≡ h.made = omega (arith, length-take-le h.made h.slots (omega arith)) in
-    l.invariant ∙ ap (count (full_at h)) e
