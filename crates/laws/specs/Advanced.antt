@@ -1,10 +1,9 @@
 -- What an advance and a close leave: the counts and the list of an advance (proofs/Soundness/AdvancedSound.antt, proofs/Reporting/AdvancedList.antt), and
 -- a set that is closed for good (proofs/Soundness/ClosedSound.antt).
 -- Assumes nothing.
-use Rattle.std.specs.Prelude.{◌≡◌, true, List, ℕ, ◌+◌, ◌≤◌, ◌<◌, length, get_or}
+use Rattle.std.specs.Prelude.{◌≡◌, true, List, ℕ, ◌+◌, ◌≤◌, ◌<◌, length, get_or, None}
 use Rattle.heap.specs.Capacity.{cap}
 use Rattle.state.specs.declared.Life.TheVariants.{Live}
-use Rattle.state.specs.declared.First.TheVariants as First
 use Rattle.state.specs.declared.Timer.{Timer}
 use Rattle.state.specs.declared.Set.{Set}
 use Rattle.state.specs.State.{timer_at}
@@ -44,6 +43,6 @@ pub record Rest (s : Set) (l : List ℕ) (r : Ring) : Type 0 where
 -- a set that is closed for good: its list and its heap are empty, no timer waits, and none names a slot
 pub record Shut (s : Set) : Type 0 where
   pub is_closed : s.closed ≡ true
-  pub no_first : s.first ≡ First.Nothing
+  pub no_first : s.first ≡ None
   pub none_left : s.heap.len ≡ 0
   pub unused : (p : ℕ) → p < cap → Unused (timer_at s p)

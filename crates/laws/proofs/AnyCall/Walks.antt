@@ -3,16 +3,17 @@
 use mathlib.Core.Bool.{Bool, true, false, cond}
 use mathlib.Core.List.{List}
 use Prim.Native.Nat.{ℕ, zero, suc}
+use Rattle.std.specs.Prelude.{Option, Some, None}
+use Rattle.heap.specs.declared.Place.{Place}
 use Rattle.heap.specs.Capacity.{cap}
-use Rattle.state.specs.declared.First.{First}
 use Rattle.state.specs.declared.Set.{Set}
 use Rattle.moves.specs.Rules.{settled_of, list_turn, drain_from, drained_of, Ring, due_by, rung_of, ring_from, advanced_of, unlisted_of, unlist_from, popped_of, empty_from, sealed, closed_of}
 
 module _ (P : Set → Type 0) where
   -- a turn of a walk along the list
-  turn_walk : (s : Set) (f : First) (more : ℕ → Set) → P s → ((p : ℕ) → P (more p)) → P (list_turn s f more)
-  turn_walk s First.Nothing more x y = x
-  turn_walk s (First.At p) more x y = y p.0
+  turn_walk : (s : Set) (f : Option Place) (more : ℕ → Set) → P s → ((p : ℕ) → P (more p)) → P (list_turn s f more)
+  turn_walk s None more x y = x
+  turn_walk s (Some p) more x y = y p.0
 
   module _ (settles : (s : Set) (p : ℕ) → P s → P (settled_of s p)) where
     drain_from_lem : (k : ℕ) (s : Set) → P s → P (drain_from k s)

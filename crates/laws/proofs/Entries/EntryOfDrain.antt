@@ -6,6 +6,9 @@ use mathlib.Core.Bool.{true, false}
 use mathlib.Core.Option.{Option}
 use Prim.Native.Nat.{ℕ, zero, suc, ◌<◌, ◌≤◌}
 use native.Mathlib.Omega.{arith}
+use Rattle.std.specs.Prelude as Code
+use Rattle.std.specs.Prelude.{Some, None}
+use Rattle.heap.specs.declared.Place.{Place}
 use Rattle.theory.specs.Counting.{count}
 use Rattle.theory.proofs.Tests.{by-ref, ref_eq, true_false}
 use Rattle.theory.proofs.Counting.{count_le, count_zero}
@@ -13,7 +16,6 @@ use Rattle.heap.specs.Capacity.{cap}
 use Rattle.heap.specs.declared.Entry.{Entry}
 use Rattle.word.specs.Rules.{generation_of}
 use Rattle.state.specs.declared.Life.TheVariants.{Live}
-use Rattle.state.specs.declared.First.{First}
 use Rattle.state.specs.declared.Timer.{Timer}
 use Rattle.state.specs.declared.Set.{Set}
 use Rattle.state.specs.State.{timer_at, is_waiting}
@@ -41,7 +43,7 @@ none_drains : (s : Set) → count (waits_at s) cap ≡ 0 → (x w d : ℕ) → x
 none_drains s e x w d b = record { armed = λ t. absurd (count_zero (waits_at s) cap e x b (waits_in s x b ∙ t)); stays = λ _. refl }
 
 -- a turn with the timer at p, and then turns that end in r
-module _ (s : Set) (o : Open s) (words : Words s) (p : ℕ) (at : s.first ≡ First.At (record { 0 = p })) (r : Set)
+module _ (s : Set) (o : Open s) (words : Words s) (p : ℕ) (at : s.first ≡ Some (record { 0 = p })) (r : Set)
     (rest : (x w d : ℕ) → x < cap → (timer_at (settled_of s p) x).life ≡ Live w d → EntryAfter (settled_of s p) r x w d)
   where
     -- the timer at p gets its entry in this turn, and waits no more
@@ -80,12 +82,12 @@ unfolding drain_from
 drain_drains zero s o words l = λ x w d b _. none_drains s (omega arith) x w d b
 drain_drains (suc k) s o words l = go s.first refl (λ r t v c. drain_drains k r t v c)
   where
-    go : (f : First) → s.first ≡ f
+    go : (f : Code.Option Place) → s.first ≡ f
         → ((r : Set) → Open r → Words r → count (waits_at r) cap ≤ k
         → (x w d : ℕ) → x < cap → (timer_at r x).life ≡ Live w d → EntryAfter r (drain_from k r) x w d)
         → (x w d : ℕ) → x < cap → (timer_at s x).life ≡ Live w d → EntryAfter s (list_turn s f (λ p. drain_from k (settled_of s p))) x w d
-    go First.Nothing e rest = λ x w d b _. none_drains s (empty_none s o e) x w d b
-    go (First.At p) e rest =
+    go None e rest = λ x w d b _. none_drains s (empty_none s o e) x w d b
+    go (Some p) e rest =
         let t = settled_settles s o words p.0 e in
         turn_drains s o words p.0 e (drain_from k (settled_of s p.0))
         (rest (settled_of s p.0) t.is_open (settled_words s p.0 words) (omega (arith, t.fewer)))

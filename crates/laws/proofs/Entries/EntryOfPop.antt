@@ -10,6 +10,8 @@ use native.Mathlib.Omega.{arith}
 use lib.Dec.{ltb, leb}
 use lib.Seq.{get_or-set_same, get_or-set_other}
 use borrow.Author.Tests.{lt-ltb, leb-true, leb-false}
+use Rattle.std.specs.Prelude as Code
+use Rattle.std.specs.Prelude.{Some, None}
 use Rattle.theory.proofs.Tests.{none_some, and_right}
 use Rattle.theory.proofs.Stores.{sees}
 use Rattle.heap.specs.Capacity.{cap}
@@ -24,7 +26,6 @@ use Rattle.heap.proofs.Slots.Slab.{sound_slab}
 use Rattle.heap.proofs.Slots.Lookup.{lookup_head, lookup_some}
 use Rattle.heap.proofs.AsList.Ordered.{head_key}
 use Rattle.heap.proofs.Slots.BySlot.{pop_other}
-use Rattle.state.specs.declared.Held.{Held}
 use Rattle.state.specs.declared.Timer.{Timer}
 use Rattle.state.specs.declared.Set.{Set}
 use Rattle.state.specs.State.{no_timer, timer_at, is_waiting}
@@ -35,9 +36,9 @@ use Rattle.laws.proofs.Parts.Ties.{sound_tied}
 use Rattle.laws.proofs.Soundness.AdvancedSound.{ring_by, from_start}
 
 -- a place that has an entry names a slot, in which the entry stands
-held_slot : (h : Heap) (x : Held) (e : Entry) → held_entry h x ≡ some e → (q : Slot) × (lookup h q.0 ≡ some e)
-held_slot h Held.Nothing e l = absurd (none_some refl l)
-held_slot h (Held.At q) e l = (q, l)
+held_slot : (h : Heap) (x : Code.Option Slot) (e : Entry) → held_entry h x ≡ some e → (q : Slot) × (lookup h q.0 ≡ some e)
+held_slot h None e l = absurd (none_some refl l)
+held_slot h (Some q) e l = (q, l)
 
 -- a head that is due has its deadline at or before the reading
 pub due_head : (h : Heap) (N : ℕ) → due_by h N ≡ true → (entry_at h 0).at ≤ N
@@ -84,9 +85,9 @@ module _ (s : Set) (ok : Sound s) where
       → held_entry (pop_sound s.heap).state (timer_at s x).held ≡ entry_of s x
   pop_held b x c n = go (timer_at s x).held refl
     where
-      go : (y : Held) → (timer_at s x).held ≡ y → held_entry (pop_sound s.heap).state y ≡ held_entry s.heap y
-      go Held.Nothing e = refl
-      go (Held.At q) e =
+      go : (y : Code.Option Slot) → (timer_at s x).held ≡ y → held_entry (pop_sound s.heap).state y ≡ held_entry s.heap y
+      go None e = refl
+      go (Some q) e =
           let w = (sound_tied s ok).names x q c e in
           pop_other s.heap slab b q.0 (λ z.
           let m : lookup s.heap q.0 ≡ some (entry_at s.heap 0) = ap (lookup s.heap) z ∙ lookup_head s.heap slab b in

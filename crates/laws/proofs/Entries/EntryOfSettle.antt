@@ -7,6 +7,7 @@ use Prim.Native.Nat.{ℕ, ◌<◌}
 use native.Mathlib.Decide.{ℕ_discrete}
 use native.Mathlib.Omega.{arith}
 use lib.ListN.{length}
+use Rattle.std.specs.Prelude.{Option, Some, None}
 use Rattle.theory.proofs.Update.{upd_other}
 use Rattle.theory.proofs.Tests.{none_some}
 use Rattle.theory.proofs.Stores.{sees_other, sees_here}
@@ -23,8 +24,6 @@ use Rattle.heap.proofs.Slots.BySlot.{free_none, push_new, push_other, remove_fou
 use Rattle.word.specs.Rules.{generation_of}
 use Rattle.state.specs.declared.Life.{Life}
 use Rattle.state.specs.declared.Life.TheVariants.{Free, Live, Cancelled, Retired}
-use Rattle.state.specs.declared.Held.{Held}
-use Rattle.state.specs.declared.First.TheVariants as First
 use Rattle.state.specs.declared.Timer.{Timer}
 use Rattle.state.specs.declared.Set.{Set}
 use Rattle.state.specs.State.{no_timer, timer_at, is_waiting, head_after}
@@ -80,7 +79,7 @@ module _ (s : Set) (p : ℕ) where
 
 -- THE ENTRIES
 
-module _ (s : Set) (o : Open s) (words : Words s) (p : ℕ) (at : s.first ≡ First.At (record { 0 = p })) where
+module _ (s : Set) (o : Open s) (words : Words s) (p : ℕ) (at : s.first ≡ Some (record { 0 = p })) where
   -- the heap without the entry of p
   abbrev left : Heap
   left = less s o words p at
@@ -94,10 +93,10 @@ module _ (s : Set) (o : Open s) (words : Words s) (p : ℕ) (at : s.first ≡ Fi
     dropped_entry : held_entry left (held_at s x) ≡ entry_of s x
     dropped_entry = go (held_at s x) refl (held_at s p) refl
       where
-        go : (y : Held) → held_at s x ≡ y → (z : Held) → held_at s p ≡ z → held_entry (dropped_of s.heap z) y ≡ held_entry s.heap y
-        go Held.Nothing e z f = refl
-        go (Held.At t) e Held.Nothing f = refl
-        go (Held.At t) e (Held.At q) f =
+        go : (y : Option Slot) → held_at s x ≡ y → (z : Option Slot) → held_at s p ≡ z → held_entry (dropped_of s.heap z) y ≡ held_entry s.heap y
+        go None e z f = refl
+        go (Some t) e None f = refl
+        go (Some t) e (Some q) f =
             let mine = o.slots.own p q (first_in s o words p at) f in
             (remove_found s.heap (sound_slab s.heap o.slots.sound) q mine.it mine.found).3 t.0
             (λ k. n (stands_one s.heap t.0 q.0 x p (o.slots.own x t b e) mine k))
@@ -106,10 +105,10 @@ module _ (s : Set) (o : Open s) (words : Words s) (p : ℕ) (at : s.first ≡ Fi
     pushed_entry : (a g : ℕ) → held_entry (push_sound left a g (record { 0 = p })).state (held_at s x) ≡ held_entry left (held_at s x)
     pushed_entry a g = go (held_at s x) refl
       where
-        go : (y : Held) → held_at s x ≡ y → held_entry (push_sound left a g (record { 0 = p })).state y ≡ held_entry left y
-        go Held.Nothing e = refl
-        go (Held.At t) e =
-            let it = (less_slots s o words p at).own x t b (upd_other ℕ_discrete (held_at s) p Held.Nothing x n ∙ e) in
+        go : (y : Option Slot) → held_at s x ≡ y → held_entry (push_sound left a g (record { 0 = p })).state y ≡ held_entry left y
+        go None e = refl
+        go (Some t) e =
+            let it = (less_slots s o words p at).own x t b (upd_other ℕ_discrete (held_at s) p None x n ∙ e) in
             rw (push_gives_lem left a g p (less_room s o words p at))
             (push_other left left_slab a g (record { 0 = p }) (less_room s o words p at) t.0
             (λ k. none_some (free_none left left_slab) (ap (lookup left) (sym k) ∙ it.found)))

@@ -7,11 +7,11 @@ use mathlib.Core.Option.{some}
 use mathlib.Core.List.{List}
 use Prim.Native.Nat.{ℕ, ◌≤◌}
 use native.Mathlib.Omega.{arith}
+use Rattle.std.specs.Prelude.{None}
 use Rattle.theory.proofs.Tests.{ref_eq, cond-ref, true_false}
 use Rattle.state.specs.declared.Life.{Life}
 use Rattle.state.specs.declared.Life.TheVariants.{Free, Live, Cancelled, Retired}
 use Rattle.state.specs.declared.Waiting.{Waiting}
-use Rattle.state.specs.declared.Held.{Held}
 use Rattle.state.specs.declared.Timer.{Timer}
 use Rattle.state.specs.declared.Set.{Set}
 use Rattle.state.specs.declared.Handle.{Handle}
@@ -79,7 +79,7 @@ marked_kind (Live w d) = (refl, refl)
 marked_kind (Cancelled w) = (refl, refl)
 marked_kind Retired = (refl, refl)
 
-marked_later : (t : Timer) (w : Waiting) → Later t (record { life = marked_life t.life; waiting = w; held = Held.Nothing; uses = t.uses })
+marked_later : (t : Timer) (w : Waiting) → Later t (record { life = marked_life t.life; waiting = w; held = None; uses = t.uses })
 marked_later t w = let k = marked_kind t.life in later_life t _ refl (λ e. k.0 ∙ e) (λ e. k.1 ∙ e)
 
 -- THE RULES

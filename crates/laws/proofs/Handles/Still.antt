@@ -8,12 +8,14 @@ use mathlib.Core.Option.{Option, none, some}
 use Prim.Native.Nat.{ℕ, ◌*◌, ◌%◌}
 use native.Mathlib.Omega.{arith}
 use lib.Dec.{eqb}
+use Rattle.std.specs.Prelude as Code
+use Rattle.std.specs.Prelude.{None}
+use Rattle.heap.specs.declared.Slot.{Slot}
 use Rattle.theory.proofs.Tests.{none_some, cond-ref, ref_eq}
 use Rattle.word.specs.Rules.{fired_in, invalid_of}
 use Rattle.state.specs.declared.Life.{Life}
 use Rattle.state.specs.declared.Life.TheVariants.{Free, Live, Cancelled, Retired}
 use Rattle.state.specs.declared.Waiting.{Waiting}
-use Rattle.state.specs.declared.Held.{Held}
 use Rattle.state.specs.declared.Timer.{Timer}
 use Rattle.moves.specs.Rules.{rung_word, rung_life, rung_timer, marked_life}
 use Rattle.timers.specs.Calls.{Timing, timing_of}
@@ -94,7 +96,7 @@ module _ (W : ℕ → ℕ → Type 0) (c : Changes W) where
   stays_by true Retired m f g = record { dead = λ _. g refl; live = λ t e. absurd (none_some refl e) }
 
   -- a timer whose live word changes as the relation says, and whose deadline and use number stay
-  stays_life : (t : Timer) (m : Life) (w : Waiting) (d : Held)
+  stays_life : (t : Timer) (m : Life) (w : Waiting) (d : Code.Option Slot)
       → ((w d : ℕ) → t.life ≡ Live w d → (v : ℕ) × (W w v) × (m ≡ Live v d)) → (timing_of t.life ≡ none → timing_of m ≡ none)
       → StaysFor W t (record { life = m; waiting = w; held = d; uses = t.uses })
   unfolding names
@@ -107,7 +109,7 @@ rung_fires w g = cond-ref (λ v. Fires w v) (ref_eq w (g * 4)) (λ e. inr (omega
 -- a pop's timer
 pub rung_stays : (g : ℕ) (t : Timer) → StaysFor Fires t (rung_timer g t)
 rung_stays g t =
-    stays_life Fires fires_changes t (rung_life g t.life) t.waiting Held.Nothing
+    stays_life Fires fires_changes t (rung_life g t.life) t.waiting None
     (λ w d e. (rung_word w g, rung_fires w g, ap (rung_life g) e)) (dead t.life)
   where
     dead : (l : Life) → timing_of l ≡ none → timing_of (rung_life g l) ≡ none
@@ -118,9 +120,9 @@ rung_stays g t =
 
 -- a timer that a close meets
 pub marked_stays : (t : Timer) (w : Waiting)
-    → StaysFor Marks t (record { life = marked_life t.life; waiting = w; held = Held.Nothing; uses = t.uses })
+    → StaysFor Marks t (record { life = marked_life t.life; waiting = w; held = None; uses = t.uses })
 marked_stays t w =
-    stays_life Marks marks_changes t (marked_life t.life) w Held.Nothing
+    stays_life Marks marks_changes t (marked_life t.life) w None
     (λ w d e. (invalid_of w, inr refl, ap marked_life e)) (dead t.life)
   where
     dead : (l : Life) → timing_of l ≡ none → timing_of (marked_life l) ≡ none

@@ -9,6 +9,8 @@ use Prim.Native.Nat.{ℕ, suc, ◌<◌}
 use lib.Dec.{ltb}
 use lib.ListN.{length}
 use borrow.Author.Tests.{lt-ltb}
+use Rattle.std.specs.Prelude as Code
+use Rattle.std.specs.Prelude.{Some, None}
 use Rattle.theory.specs.Counting.{count}
 use Rattle.theory.specs.Chain.{chain_okb, chain_of}
 use Rattle.theory.proofs.Counting.{count_off}
@@ -20,7 +22,6 @@ use Rattle.heap.specs.declared.Heap.{Heap}
 use Rattle.heap.specs.declared.Place.{Place}
 use Rattle.state.specs.declared.Waiting.{Waiting}
 use Rattle.state.specs.declared.Waiting.TheVariants.{No, Last, Before}
-use Rattle.state.specs.declared.First.{First}
 use Rattle.state.specs.declared.Timer.{Timer}
 use Rattle.state.specs.declared.Set.{Set}
 use Rattle.state.specs.State.{no_timer, timer_at, is_waiting, next_in, head_of, head_after}
@@ -30,13 +31,13 @@ use Rattle.laws.proofs.Parts.Change.{changed, timer_here}
 use Rattle.laws.proofs.Parts.Ties.{Listed}
 
 -- a link to the head waits, and names the head
-pub link_waits : (f : First) → is_waiting (link_to f) ≡ true
-link_waits First.Nothing = refl
-link_waits (First.At q) = refl
+pub link_waits : (f : Code.Option Place) → is_waiting (link_to f) ≡ true
+link_waits None = refl
+link_waits (Some q) = refl
 
-link_next : (f : First) → next_in (link_to f) ≡ head_of f
-link_next First.Nothing = refl
-link_next (First.At q) = refl
+link_next : (f : Code.Option Place) → next_in (link_to f) ≡ head_of f
+link_next None = refl
+link_next (Some q) = refl
 
 -- the head after a timer is the one that the timer names
 after_next : (w : Waiting) → head_of (head_after w) ≡ next_in w
@@ -54,10 +55,10 @@ unfolding waits_at
 waits_in s p b = rw (lt-ltb p cap b)
 
 -- the head of the list is in range, and waits
-pub first_waits : (s : Set) (p : Place) → Listed s → s.first ≡ First.At p → waits_at s p.0 ≡ true
-first_waits s p l e = ok_head (waits_at s) (after_at s) cap p.0 (ap (λ (f : First). chain_okb (waits_at s) (after_at s) cap (head_of f)) (sym e) ∙ l)
+pub first_waits : (s : Set) (p : Place) → Listed s → s.first ≡ Some p → waits_at s p.0 ≡ true
+first_waits s p l e = ok_head (waits_at s) (after_at s) cap p.0 (ap (λ (f : Code.Option Place). chain_okb (waits_at s) (after_at s) cap (head_of f)) (sym e) ∙ l)
 
-module _ (s : Set) (h : Heap) (p : ℕ) (t : Timer) (f : First) where
+module _ (s : Set) (h : Heap) (p : ℕ) (t : Timer) (f : Code.Option Place) where
   waits_other : (y : ℕ) → (y ≡ p → ⊥) → waits_at s y ≡ waits_at (changed s h p t f) y
   unfolding waits_at
   waits_other y n = ap (λ (w : Waiting). ltb y cap && is_waiting w) (sees_other (λ (u : Timer). u.waiting) no_timer s.timers p t y n)
@@ -77,7 +78,7 @@ module _ (s : Set) (h : Heap) (p : ℕ) (t : Timer) (f : First) where
   -- the place waits as before: the list is as before
   pub list_stays : t.waiting ≡ (timer_at s p).waiting → f ≡ s.first → Listed s → Listed (changed s h p t f)
   list_stays e q l =
-      ap (λ (x : First). chain_okb (waits_at (changed s h p t f)) (after_at (changed s h p t f)) cap (head_of x)) q
+      ap (λ (x : Code.Option Place). chain_okb (waits_at (changed s h p t f)) (after_at (changed s h p t f)) cap (head_of x)) q
       ∙ sym (chain_same (waits_at s) (waits_at (changed s h p t f)) (after_at s) (after_at (changed s h p t f)) (waits_same e)
       (λ y _. after_same e y) cap (head_of s.first))
       ∙ l
@@ -92,7 +93,7 @@ module _ (s : Set) (h : Heap) (p : ℕ) (t : Timer) (f : First) where
     after_here = ap (λ (u : Timer). next_in u.waiting) (timer_here s h p t f long b)
 
     -- the place did not wait, and now names the old head
-    module _ (off : is_waiting (timer_at s p).waiting ≡ false) (on : t.waiting ≡ link_to s.first) (front : f ≡ First.At (record { 0 = p }))
+    module _ (off : is_waiting (timer_at s p).waiting ≡ false) (on : t.waiting ≡ link_to s.first) (front : f ≡ Some (record { 0 = p }))
         (l : Listed s)
       where
         pushed : (chain_okb (waits_at (changed s h p t f)) (after_at (changed s h p t f)) cap (some p) ≡ true)
@@ -105,10 +106,10 @@ module _ (s : Set) (h : Heap) (p : ℕ) (t : Timer) (f : First) where
         -- the list is right
         pub list_pushed : Listed (changed s h p t f)
         list_pushed =
-            ap (λ (x : First). chain_okb (waits_at (changed s h p t f)) (after_at (changed s h p t f)) cap (head_of x)) front ∙ pushed.0
+            ap (λ (x : Code.Option Place). chain_okb (waits_at (changed s h p t f)) (after_at (changed s h p t f)) cap (head_of x)) front ∙ pushed.0
 
     -- the place stood in front, and waits no more
-    module _ (at : s.first ≡ First.At (record { 0 = p })) (off : is_waiting t.waiting ≡ false) (front : f ≡ head_after (timer_at s p).waiting)
+    module _ (at : s.first ≡ Some (record { 0 = p })) (off : is_waiting t.waiting ≡ false) (front : f ≡ head_after (timer_at s p).waiting)
         (l : Listed s)
       where
         next_front : after_at s p ≡ head_of f
@@ -122,7 +123,7 @@ module _ (s : Set) (h : Heap) (p : ℕ) (t : Timer) (f : First) where
             × (chain_of (waits_at s) (after_at s) cap (some p) ≡ p ∷ chain_of (waits_at (changed s h p t f)) (after_at (changed s h p t f)) cap (after_at s p))
         popped =
             pop_ok (waits_at s) (waits_at (changed s h p t f)) (after_at s) (after_at (changed s h p t f)) cap p waits_other after_other
-            b (waits_here ∙ off) (ap (λ (x : First). chain_okb (waits_at s) (after_at s) cap (head_of x)) (sym at) ∙ l)
+            b (waits_here ∙ off) (ap (λ (x : Code.Option Place). chain_okb (waits_at s) (after_at s) cap (head_of x)) (sym at) ∙ l)
 
         -- the list is right
         pub list_popped : Listed (changed s h p t f)
@@ -133,7 +134,7 @@ module _ (s : Set) (h : Heap) (p : ℕ) (t : Timer) (f : First) where
         pub list_pop : list_of s ≡ p ∷ list_of (changed s h p t f)
         unfolding list_of
         list_pop =
-            ap (λ (x : First). chain_of (waits_at s) (after_at s) cap (head_of x)) at ∙ popped.1
+            ap (λ (x : Code.Option Place). chain_of (waits_at s) (after_at s) cap (head_of x)) at ∙ popped.1
             ∙ ap (λ (x : Option ℕ). p ∷ chain_of (waits_at (changed s h p t f)) (after_at (changed s h p t f)) cap x) next_front
 
         -- one timer less waits

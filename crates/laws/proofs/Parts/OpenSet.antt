@@ -6,6 +6,8 @@ use mathlib.Core.Bool.{true, false}
 use Prim.Native.Nat.{ℕ, ◌<◌}
 use native.Mathlib.Omega.{arith}
 use lib.ListN.{length, length-set}
+use Rattle.std.specs.Prelude.{Option, Some}
+use Rattle.heap.specs.declared.Place.{Place}
 use Rattle.theory.specs.Chain.{chain_okb}
 use Rattle.theory.proofs.Tests.{true_false}
 use Rattle.theory.proofs.Stores.{set_all}
@@ -16,8 +18,6 @@ use Rattle.heap.specs.declared.Heap.{Heap}
 use Rattle.heap.specs.Rules.{entry_at}
 use Rattle.heap.proofs.Slots.Slab.{sound_slab}
 use Rattle.heap.proofs.Slots.Lookup.{lookup_full, lookup_state, lookup_some}
-use Rattle.state.specs.declared.Held.{Held}
-use Rattle.state.specs.declared.First.{First}
 use Rattle.state.specs.declared.Timer.{Timer}
 use Rattle.state.specs.declared.Set.{Set}
 use Rattle.state.specs.State.{no_timer, timer_at, head_of}
@@ -37,7 +37,7 @@ pub record Open (s : Set) : Type 0 where
   pub lives : (p : ℕ) → p < cap → Lives (timer_at s p)
 
 module _ (s : Set) (o : Sound s) where
-  slots_own : (p : ℕ) (q : Slot) → p < cap → held_at s p ≡ Held.At q → Stands s.heap q.0 p
+  slots_own : (p : ℕ) (q : Slot) → p < cap → held_at s p ≡ Some q → Stands s.heap q.0 p
   slots_own p q b e =
       let w = o.slot_own p q b e in
       record {
@@ -73,7 +73,7 @@ module _ (s : Set) (o : Sound s) where
   }
 
 module _ (s : Set) (o : Open s) where
-  open_owns : (p : ℕ) (q : Slot) → p < cap → held_at s p ≡ Held.At q → Owns s p q
+  open_owns : (p : ℕ) (q : Slot) → p < cap → held_at s p ≡ Some q → Owns s p q
   open_owns p q b e =
       let w = o.slots.own p q b e in
       let r = lookup_state s.heap q.0 w.it w.found in
@@ -98,7 +98,7 @@ module _ (s : Set) (o : Open s) where
     cancelled_waits = λ p w b _ e. (o.lives p b).cancelled_waits w e;
   }
 
-module _ (s : Set) (h : Heap) (p : ℕ) (t : Timer) (f : First) where
+module _ (s : Set) (h : Heap) (p : ℕ) (t : Timer) (f : Option Place) where
   -- the three parts make the changed set an open one
   pub open_changed : Open s → p < cap → Slots h (held_at (changed s h p t f)) → Lives t
       → chain_okb (waits_at (changed s h p t f)) (after_at (changed s h p t f)) cap (head_of f) ≡ true → Open (changed s h p t f)

@@ -6,6 +6,7 @@ use mathlib.Core.Option.{none, some}
 use Prim.Native.Nat.{ℕ, ◌<◌, ◌^◌}
 use native.Mathlib.Omega.{arith}
 use borrow.Author.Tests.{lt-ltb}
+use Rattle.std.specs.Prelude.{Option, Some, None}
 use Rattle.theory.proofs.Tests.{by-ref, ref_eq, none_some}
 use Rattle.refusals.specs.Answer.{Outcome}
 use Rattle.heap.specs.Capacity.{cap}
@@ -20,7 +21,6 @@ use Rattle.heap.proofs.Slots.Slab.{sound_slab}
 use Rattle.heap.proofs.Slots.Lookup.{lookup_some}
 use Rattle.heap.proofs.Slots.BySlot.{free_none, push_new, push_other, remove_found}
 use Rattle.heap.proofs.Soundness.SoundKept.{push_sound_lem, remove_sound_lem}
-use Rattle.state.specs.declared.Held.{Held}
 use Rattle.moves.specs.Rules.{dropped_of, held_by}
 
 -- the entry that stands in the slot k holds the place p
@@ -30,23 +30,23 @@ pub record Stands (h : Heap) (k p : ℕ) : Type 0 where
   pub mine : it.place.0 ≡ p
 
 -- the entry's place is in range and names the entry's slot, and its generation is in range
-pub record Fits (held : ℕ → Held) (e : Entry) : Type 0 where
+pub record Fits (held : ℕ → Option Slot) (e : Entry) : Type 0 where
   pub place_in : e.place.0 < cap
-  pub named : held e.place.0 ≡ Held.At e.slot
+  pub named : held e.place.0 ≡ Some e.slot
   pub young : e.generation < 2 ^ 30
 
 -- a sound heap whose entries and the places name each other
-pub record Slots (h : Heap) (held : ℕ → Held) : Type 0 where
+pub record Slots (h : Heap) (held : ℕ → Option Slot) : Type 0 where
   pub sound : Heap.Sound h
-  pub own : (p : ℕ) (q : Slot) → p < cap → held p ≡ Held.At q → Stands h q.0 p
+  pub own : (p : ℕ) (q : Slot) → p < cap → held p ≡ Some q → Stands h q.0 p
   pub fits : (k : ℕ) (e : Entry) → lookup h k ≡ some e → Fits held e
 
 -- no timer both names a slot and names none
-pub nothing_at : {A : Type 0} {x : Held} {q : Slot} → x ≡ Held.Nothing → x ≡ Held.At q → A
+pub nothing_at : {A : Type 0} {x : Option Slot} {q : Slot} → x ≡ None → x ≡ Some q → A
 nothing_at e f = let z : ◌≡◌ {A = ℕ} 0 1 = cc in absurd (omega arith)
 
 -- a timer names one slot
-pub at_same : {x : Held} {q r : Slot} → x ≡ Held.At q → x ≡ Held.At r → q ≡ r
+pub at_same : {x : Option Slot} {q r : Slot} → x ≡ Some q → x ≡ Some r → q ≡ r
 at_same e f = cc
 
 some_same : {x y : Entry} → some x ≡ some y → x ≡ y
@@ -59,7 +59,7 @@ stands_one h j k x p a b e =
     sym a.mine ∙ ap (λ (y : Entry). y.place.0) q ∙ b.mine
 
 -- places that name the same slots as before
-pub slots_same : (h : Heap) (held held' : ℕ → Held) → ((x : ℕ) → held' x ≡ held x) → Slots h held → Slots h held'
+pub slots_same : (h : Heap) (held held' : ℕ → Option Slot) → ((x : ℕ) → held' x ≡ held x) → Slots h held → Slots h held'
 slots_same h held held' same s = record {
   sound = s.sound;
   own = λ p q b e. s.own p q b (sym (same p) ∙ e);
@@ -77,14 +77,14 @@ unfolding push_sound
 push_gives_lem h at g p room = rw (lt-ltb h.len cap room)
 
 -- the slot that the place p names may change, and no other place's
-module _ (h : Heap) (held held' : ℕ → Held) (p : ℕ) (s : Slots h held) (there : (x : ℕ) → (x ≡ p → ⊥) → held' x ≡ held x) where
+module _ (h : Heap) (held held' : ℕ → Option Slot) (p : ℕ) (s : Slots h held) (there : (x : ℕ) → (x ≡ p → ⊥) → held' x ≡ held x) where
   -- an entry whose place is another stays as it is
   fits_other : (e : Entry) → Fits held e → (e.place.0 ≡ p → ⊥) → Fits held' e
   fits_other e f n = record { place_in = f.place_in; named = there e.place.0 n ∙ f.named; young = f.young }
 
-  module _ (q : Slot) (b : p < cap) (at : held p ≡ Held.At q) (off : held' p ≡ Held.Nothing) where
+  module _ (q : Slot) (b : p < cap) (at : held p ≡ Some q) (off : held' p ≡ None) where
     removed_own : (g : Heap) → ((k : ℕ) → (k ≡ q.0 → ⊥) → lookup g k ≡ lookup h k)
-        → (x : ℕ) (t : Slot) → x < cap → held' x ≡ Held.At t → Stands g t.0 x
+        → (x : ℕ) (t : Slot) → x < cap → held' x ≡ Some t → Stands g t.0 x
     removed_own g other x t c a =
         by-ref (ref_eq x p) (λ e. nothing_at (ap held' e ∙ off) a)
         (λ n.
@@ -119,19 +119,19 @@ module _ (h : Heap) (held held' : ℕ → Held) (p : ℕ) (s : Slots h held) (th
         }
 
   -- the place drops what entry it has, and names no slot
-  pub slots_dropped : p < cap → held' p ≡ Held.Nothing → Slots (dropped_of h (held p)) held'
+  pub slots_dropped : p < cap → held' p ≡ None → Slots (dropped_of h (held p)) held'
   slots_dropped b off = go (held p) refl
     where
-      go : (x : Held) → held p ≡ x → Slots (dropped_of h x) held'
-      go Held.Nothing e =
+      go : (x : Option Slot) → held p ≡ x → Slots (dropped_of h x) held'
+      go None e =
           slots_same h held held' (λ x. by-ref (ref_eq x p) (λ y. ap held' y ∙ off ∙ sym e ∙ ap held (sym y)) (there x)) s
-      go (Held.At q) e = slots_removed q b e off
+      go (Some q) e = slots_removed q b e off
 
-  module _ (at g : ℕ) (b : p < cap) (room : h.len < cap) (young : g < 2 ^ 30) (off : held p ≡ Held.Nothing) where
+  module _ (at g : ℕ) (b : p < cap) (room : h.len < cap) (young : g < 2 ^ 30) (off : held p ≡ None) where
     abbrev new : Heap
     new = (pushed_of h at g (record { 0 = p })).heap
 
-    pushed_own : held' p ≡ Held.At h.free → (x : ℕ) (t : Slot) → x < cap → held' x ≡ Held.At t → Stands new t.0 x
+    pushed_own : held' p ≡ Some h.free → (x : ℕ) (t : Slot) → x < cap → held' x ≡ Some t → Stands new t.0 x
     pushed_own on x t c a =
         by-ref (ref_eq x p)
         (λ e. record {
@@ -152,10 +152,10 @@ module _ (h : Heap) (held held' : ℕ → Held) (p : ℕ) (s : Slots h held) (th
           mine = o.mine;
         })
 
-    new_fits : held' p ≡ Held.At h.free → (e : Entry) → new_entry h at g (record { 0 = p }) ≡ e → Fits held' e
+    new_fits : held' p ≡ Some h.free → (e : Entry) → new_entry h at g (record { 0 = p }) ≡ e → Fits held' e
     new_fits on e q = subst (Fits held') q (record { place_in = b; named = on; young = young })
 
-    pushed_fits : held' p ≡ Held.At h.free → (k : ℕ) (e : Entry) → lookup new k ≡ some e → Fits held' e
+    pushed_fits : held' p ≡ Some h.free → (k : ℕ) (e : Entry) → lookup new k ≡ some e → Fits held' e
     pushed_fits on k e l =
         by-ref (ref_eq k h.free.0)
         (λ y. new_fits on e (some_same (sym (push_new h (sound_slab h s.sound) at g (record { 0 = p }) room) ∙ ap (lookup new) (sym y) ∙ l)))
@@ -166,7 +166,7 @@ module _ (h : Heap) (held held' : ℕ → Held) (p : ℕ) (s : Slots h held) (th
     -- the place, which names no slot, gets an entry, and names the slot that the push answers
     pub slots_pushed : held' p ≡ held_by (push_sound h at g (record { 0 = p })).answer → Slots (push_sound h at g (record { 0 = p })).state held'
     slots_pushed e =
-        let on : held' p ≡ Held.At h.free = e ∙ ap (λ (o : Outcome Heap (Slot × ℕ)). held_by o.answer) (push_gives_lem h at g p room) in
+        let on : held' p ≡ Some h.free = e ∙ ap (λ (o : Outcome Heap (Slot × ℕ)). held_by o.answer) (push_gives_lem h at g p room) in
         record {
           sound = push_sound_lem h s.sound at g (record { 0 = p });
           own = rw (push_gives_lem h at g p room) (pushed_own on);

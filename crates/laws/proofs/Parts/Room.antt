@@ -8,6 +8,7 @@ use mathlib.Core.List.{List, [], ◌∷◌}
 use Prim.Native.Nat.{ℕ, zero, suc, ◌<◌, ◌≤◌}
 use native.Mathlib.Omega.{arith}
 use lib.ListN.{length}
+use Rattle.std.specs.Prelude.{Option, None}
 use Rattle.theory.specs.Counting.{count, Mem, Distinct}
 use Rattle.theory.proofs.Tests.{by-ref, ref_lt}
 use Rattle.theory.proofs.Pigeonhole.{pigeonhole}
@@ -17,7 +18,6 @@ use Rattle.heap.specs.declared.Heap.{Heap}
 use Rattle.heap.specs.Rules.{entry_at, slot_at}
 use Rattle.heap.proofs.Slots.Slab.{sound_slab, slot_apart}
 use Rattle.heap.proofs.Slots.Lookup.{lookup_at}
-use Rattle.state.specs.declared.Held.{Held}
 use Rattle.laws.proofs.Parts.OpenSlots.{Fits, Slots, nothing_at, at_same}
 
 -- the places of the entries below n
@@ -42,7 +42,7 @@ unfolding count
 count_all zero = refl
 count_all (suc n) = ap suc (count_all n)
 
-module _ (h : Heap) (held : ℕ → Held) (s : Slots h held) where
+module _ (h : Heap) (held : ℕ → Option Slot) (s : Slots h held) where
   -- the entry at a position is named by its place
   pub fits_at : (i : ℕ) → i < h.len → Fits held (entry_at h i)
   fits_at i b = s.fits (slot_at h i) (entry_at h i) (lookup_at h (sound_slab h s.sound) i b)
@@ -68,7 +68,7 @@ module _ (h : Heap) (held : ℕ → Held) (s : Slots h held) where
       (omega (arith, (fits_at r.0 l).place_in, r.2), refl)
 
   -- a place that names no slot leaves room for an entry
-  pub room : (p : ℕ) → p < cap → held p ≡ Held.Nothing → h.len < cap
+  pub room : (p : ℕ) → p < cap → held p ≡ None → h.len < cap
   room p b e = by-ref (ref_lt h.len cap) (λ l. l) (λ n. absurd (full (omega (arith, s.sound.len_in))))
     where
       full : h.len ≡ cap → ⊥

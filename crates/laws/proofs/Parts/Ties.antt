@@ -6,6 +6,7 @@ use mathlib.Core.Bool.{Bool, true, false}
 use mathlib.Core.Option.{some}
 use Prim.Native.Nat.{ℕ, ◌<◌, ◌^◌}
 use lib.ListN.{length}
+use Rattle.std.specs.Prelude.{Some, None}
 use Rattle.theory.specs.Chain.{chain_okb}
 use Rattle.heap.specs.Capacity.{cap}
 use Rattle.heap.specs.declared.Slot.{Slot}
@@ -17,8 +18,6 @@ use Rattle.heap.proofs.Slots.Slab.{sound_slab}
 use Rattle.heap.proofs.Slots.Lookup.{lookup_full, lookup_state, lookup_at, lookup_some}
 use Rattle.word.specs.Rules.{invalid_in}
 use Rattle.state.specs.declared.Life.TheVariants.{Free, Live, Cancelled, Retired}
-use Rattle.state.specs.declared.Held.TheVariants as Held
-use Rattle.state.specs.declared.First.TheVariants as First
 use Rattle.state.specs.declared.Timer.{Timer}
 use Rattle.state.specs.declared.Set.{Set}
 use Rattle.state.specs.State.{timer_at, is_waiting, head_of}
@@ -29,13 +28,13 @@ use Rattle.state.specs.Sound.{Unused, Sound}
 pub record Tied (s : Set) : Type 0 where
   pub timers_long : length s.timers ≡ cap
   pub heap_sound : Heap.Sound s.heap
-  pub names : (p : ℕ) (q : Slot) → p < cap → (timer_at s p).held ≡ Held.At q
+  pub names : (p : ℕ) (q : Slot) → p < cap → (timer_at s p).held ≡ Some q
       → (e : Entry) × (lookup s.heap q.0 ≡ some e) × (e.place.0 ≡ p)
   pub ranges : (k : ℕ) (e : Entry) → lookup s.heap k ≡ some e → (e.place.0 < cap) × (e.generation < 2 ^ 30)
 
 -- each entry's place names the entry's slot
 abbrev pub Owned : Set → Type 0
-Owned s = (k : ℕ) (e : Entry) → lookup s.heap k ≡ some e → (timer_at s e.place.0).held ≡ Held.At e.slot
+Owned s = (k : ℕ) (e : Entry) → lookup s.heap k ≡ some e → (timer_at s e.place.0).held ≡ Some e.slot
 
 -- the list holds exactly the waiting timers, each once
 abbrev pub Listed : Set → Type 0
@@ -65,7 +64,7 @@ module _ (s : Set) (ok : Sound s) where
   pub sound_owned : Owned s
   sound_owned k e l =
       let r = lookup_some s.heap (sound_slab s.heap ok.heap_sound) k e l in
-      subst (λ (x : Entry). (timer_at s x.place.0).held ≡ Held.At x.slot) r.2 (ok.entry_own r.0 r.1)
+      subst (λ (x : Entry). (timer_at s x.place.0).held ≡ Some x.slot) r.2 (ok.entry_own r.0 r.1)
 
   -- and each place is fine by itself
   pub sound_fine : (p : ℕ) → p < cap → Fine s.closed (timer_at s p)
@@ -79,7 +78,7 @@ module _ (s : Set) (ok : Sound s) where
 
 -- together they make a sound set
 pub tied_sound : (s : Set) → Tied s → Owned s → Listed s → ((p : ℕ) → p < cap → Fine s.closed (timer_at s p))
-    → (s.closed ≡ true → s.first ≡ First.Nothing) → (s.closed ≡ true → s.heap.len ≡ 0) → Sound s
+    → (s.closed ≡ true → s.first ≡ None) → (s.closed ≡ true → s.heap.len ≡ 0) → Sound s
 tied_sound s t o l f first_none none_left =
     let slab = sound_slab s.heap t.heap_sound in
     record {

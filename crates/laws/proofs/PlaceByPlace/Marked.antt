@@ -7,12 +7,12 @@ use mathlib.Core.Bool.{true}
 use mathlib.Core.Option.{some}
 use Prim.Native.Nat.{ℕ}
 use native.Mathlib.Omega.{arith}
+use Rattle.std.specs.Prelude.{None}
 use Rattle.theory.proofs.Tests.{true_false, none_some}
 use Rattle.heap.specs.declared.Entry.{Entry}
 use Rattle.word.specs.Rules.{invalid_of}
 use Rattle.state.specs.declared.Life.{Life}
 use Rattle.state.specs.declared.Life.TheVariants.{Free, Live, Cancelled, Retired}
-use Rattle.state.specs.declared.Held.TheVariants as Held
 use Rattle.state.specs.declared.Timer.{Timer}
 use Rattle.state.specs.declared.Set.{Set}
 use Rattle.state.specs.declared.Handle.{Handle}
@@ -55,7 +55,7 @@ closed_met = closed_steps Met met_steps (λ t w. inr (refl, refl))
 
 module _ (s : Set) (ok : Sound s) (h : Handle) (t : Timing) (live : live_at s h ≡ some t) where
   -- a timer that waited, or named a slot, is not as it was
-  moved : (waiting s h.place.0 ≡ true) ⊎ (((timer_at s h.place.0).held ≡ Held.Nothing) → ⊥)
+  moved : (waiting s h.place.0 ≡ true) ⊎ (((timer_at s h.place.0).held ≡ None) → ⊥)
       → timer_at (closed_of s) h.place.0 ≡ timer_at s h.place.0 → ⊥
   moved r e =
       let u = (closed_shut s ok).unused h.place.0 (live_told s h t live).in_range in
@@ -65,7 +65,7 @@ module _ (s : Set) (ok : Sound s) (h : Handle) (t : Timing) (live : live_at s h 
       r
 
   -- a live timer that waits, or names a slot, has the invalid bit after a close
-  pub closed_marks : (waiting s h.place.0 ≡ true) ⊎ (((timer_at s h.place.0).held ≡ Held.Nothing) → ⊥)
+  pub closed_marks : (waiting s h.place.0 ≡ true) ⊎ (((timer_at s h.place.0).held ≡ None) → ⊥)
       → live_at (closed_of s) h ≡ some (record { word = invalid_of t.word; due = t.due })
   closed_marks r =
       let o = live_told s h t live in

@@ -6,6 +6,8 @@ use mathlib.Core.Path.{◌≡◌, refl, sym}
 use mathlib.Core.Bool.{Bool, true, false, cond}
 use mathlib.Core.List.{List}
 use Prim.Native.Nat.{ℕ, zero, suc}
+use Rattle.std.specs.Prelude.{Option, Some, None}
+use Rattle.heap.specs.declared.Place.{Place}
 use Rattle.heap.specs.Capacity.{cap}
 use lib.ListN.{get_or, set}
 use Rattle.heap.specs.Rules.{entry_at}
@@ -13,8 +15,6 @@ use Rattle.state.specs.declared.Life.{Life}
 use Rattle.state.specs.declared.Life.TheVariants.{Free, Live, Cancelled, Retired}
 use Rattle.state.specs.declared.Waiting.{Waiting}
 use Rattle.state.specs.declared.Waiting.TheVariants.{No}
-use Rattle.state.specs.declared.Held.TheVariants as Held
-use Rattle.state.specs.declared.First.{First}
 use Rattle.state.specs.declared.Timer.{Timer}
 use Rattle.state.specs.declared.Set.{Set}
 use Rattle.state.specs.State.{no_timer, timer_at, is_waiting, head_after}
@@ -48,16 +48,16 @@ module _ (R : Timer → Timer → Type 0) (o : Steps R) where
   put : (s : Set) (p : ℕ) (t : Timer) → R (timer_at s p) t → (x : ℕ) → R (timer_at s x) (get_or (set s.timers p t) x no_timer)
   put s p t e = store_rel (λ _ a b. R a b) (λ _ t. o.stays t) s.timers p t e
 
-  module _ (marks : (t : Timer) (w : Waiting) → R t (record { life = marked_life t.life; waiting = w; held = Held.Nothing; uses = t.uses })) where
+  module _ (marks : (t : Timer) (w : Waiting) → R t (record { life = marked_life t.life; waiting = w; held = None; uses = t.uses })) where
     unlist_each : (k : ℕ) (s : Set) → Each R s (unlist_from k s)
     unfolding unlist_from unlisted_of
     unlist_each zero s = unmoved s
     unlist_each (suc k) s = go s.first (λ p. unlist_each k (unlisted_of s p))
       where
-        go : (f : First) → ((p : ℕ) → Each R (unlisted_of s p) (unlist_from k (unlisted_of s p)))
+        go : (f : Option Place) → ((p : ℕ) → Each R (unlisted_of s p) (unlist_from k (unlisted_of s p)))
             → Each R s (list_turn s f (λ p. unlist_from k (unlisted_of s p)))
-        go First.Nothing rest = unmoved s
-        go (First.At q) rest = λ p. o.then _ _ _ (put s q.0 _ (marks (timer_at s q.0) No) p) (rest q.0 p)
+        go None rest = unmoved s
+        go (Some q) rest = λ p. o.then _ _ _ (put s q.0 _ (marks (timer_at s q.0) No) p) (rest q.0 p)
 
     empty_each : (k : ℕ) (s : Set) → Each R s (empty_from k s)
     unfolding empty_from popped_of
@@ -101,10 +101,10 @@ module _ (R : Timer → Timer → Type 0) (o : Order R) where
     drain_each zero s = same s
     drain_each (suc k) s = go s.first (λ p. drain_each k (settled_of s p))
       where
-        go : (f : First) → ((p : ℕ) → Each R (settled_of s p) (drain_from k (settled_of s p)))
+        go : (f : Option Place) → ((p : ℕ) → Each R (settled_of s p) (drain_from k (settled_of s p)))
             → Each R s (list_turn s f (λ p. drain_from k (settled_of s p)))
-        go First.Nothing rest = same s
-        go (First.At q) rest = λ p. o.then _ _ _ (settled_each s q.0 p) (rest q.0 p)
+        go None rest = same s
+        go (Some q) rest = λ p. o.then _ _ _ (settled_each s q.0 p) (rest q.0 p)
 
     -- a drain
     pub drained_each : (s : Set) → Each R s (drained_of s)
@@ -131,6 +131,6 @@ module _ (R : Timer → Timer → Type 0) (o : Order R) where
     advanced_each s N l = ring_each s.heap.len (record { set = s; list = l; reported = 0; popped = 0 }) N
 
   -- a close
-  pub closed_each : ((t : Timer) (w : Waiting) → R t (record { life = marked_life t.life; waiting = w; held = Held.Nothing; uses = t.uses }))
+  pub closed_each : ((t : Timer) (w : Waiting) → R t (record { life = marked_life t.life; waiting = w; held = None; uses = t.uses }))
       → (s : Set) → Each R s (closed_of s)
   closed_each = closed_steps R (order_steps R o)

@@ -5,13 +5,14 @@ use Prim.Native.Nat.{ℕ, ◌<◌, ◌^◌}
 use native.Mathlib.Omega.{arith}
 use lib.ListN.{length, set, length-set, length-replicate, get_or-replicate}
 use lib.Seq.{set_out}
+use Rattle.std.specs.Prelude.{Option}
+use Rattle.heap.specs.declared.Place.{Place}
 use Rattle.theory.proofs.Stores.{set_all}
 use Rattle.theory.proofs.Tests.{by-ref, ref_lt}
 use Rattle.heap.specs.Capacity.{cap}
 use Rattle.heap.specs.declared.Heap.{Heap}
 use Rattle.state.specs.declared.Life.{Life}
 use Rattle.state.specs.declared.Life.TheVariants.{Free, Live, Cancelled, Retired}
-use Rattle.state.specs.declared.First.{First}
 use Rattle.state.specs.declared.Timer.{Timer}
 use Rattle.state.specs.declared.Set.{Set}
 use Rattle.state.specs.State.{no_timer, timer_at, is_waiting, head_after, fresh_of}
@@ -37,7 +38,7 @@ fresh_words = record {
 }
 
 -- a change of one place, in range or not, with a word that has 32 bits if the place is in range
-pub words_changed : (s : Set) (h : Heap) (p : ℕ) (t : Timer) (f : First) → Words s → (p < cap → Small t.life) → Words (changed s h p t f)
+pub words_changed : (s : Set) (h : Heap) (p : ℕ) (t : Timer) (f : Option Place) → Words s → (p < cap → Small t.life) → Words (changed s h p t f)
 words_changed s h p t f w new = by-ref (ref_lt p (length s.timers)) within out
   where
     within : p < length s.timers → Words (changed s h p t f)

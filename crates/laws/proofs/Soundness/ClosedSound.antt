@@ -5,6 +5,9 @@ use mathlib.Core.Bool.{true, ◌&&◌}
 use Prim.Native.Nat.{ℕ, zero, suc, ◌+◌, ◌<◌}
 use native.Mathlib.Omega.{arith}
 use borrow.Author.Tests.{lt-ltb}
+use Rattle.std.specs.Prelude.{Option, Some, None}
+use Rattle.heap.specs.declared.Place.{Place}
+use Rattle.heap.specs.declared.Slot.{Slot}
 use Rattle.theory.specs.Chain.{chain_okb}
 use Rattle.theory.proofs.Counting.{count_le, count_zero}
 use Rattle.theory.proofs.ChainTest.{ok_none}
@@ -14,8 +17,6 @@ use Rattle.heap.proofs.Slots.Slab.{sound_slab}
 use Rattle.heap.proofs.Slots.Lookup.{lookup_some}
 use Rattle.state.specs.declared.Waiting.{Waiting}
 use Rattle.state.specs.declared.Waiting.TheVariants.{No, Last, Before}
-use Rattle.state.specs.declared.Held.{Held}
-use Rattle.state.specs.declared.First.{First}
 use Rattle.state.specs.declared.Timer.{Timer}
 use Rattle.state.specs.declared.Set.{Set}
 use Rattle.state.specs.State.{timer_at, is_waiting, head_of}
@@ -33,7 +34,7 @@ module _ (s : Set) (c : Closing s) (b : 0 < s.heap.len) where
   met : Timer
   met =
       let t = timer_at s (entry_at s.heap 0).place.0 in
-      record { life = marked_life t.life; waiting = t.waiting; held = Held.Nothing; uses = t.uses }
+      record { life = marked_life t.life; waiting = t.waiting; held = None; uses = t.uses }
 
   -- a pop of a close keeps the set in the middle of it
   popped_closing : Closing (popped_of s)
@@ -60,11 +61,11 @@ popped_first s = refl
 -- a set that is about to be sealed: its list and its heap are empty
 pub record Emptied (s : Set) : Type 0 where
   pub closing : Closing s
-  pub no_first : s.first ≡ First.Nothing
+  pub no_first : s.first ≡ None
   pub none_left : s.heap.len ≡ 0
 
 -- after as many pops as there are entries the heap is empty
-empty_all : (k : ℕ) (s : Set) → Closing s → s.first ≡ First.Nothing → s.heap.len ≡ k → Emptied (empty_from k s)
+empty_all : (k : ℕ) (s : Set) → Closing s → s.first ≡ None → s.heap.len ≡ k → Emptied (empty_from k s)
 unfolding empty_from
 empty_all zero s c f e = record { closing = c; no_first = f; none_left = e }
 empty_all (suc k) s c f e =
@@ -82,16 +83,16 @@ module _ (s : Set) (m : Emptied s) where
   empty_still : (p : ℕ) → p < cap → (timer_at s p).waiting ≡ No
   unfolding waits_at
   empty_still p b =
-      let z = ok_none (waits_at s) (after_at s) cap (subst (λ (f : First). chain_okb (waits_at s) (after_at s) cap (head_of f) ≡ true) m.no_first m.closing.listed) in
+      let z = ok_none (waits_at s) (after_at s) cap (subst (λ (f : Option Place). chain_okb (waits_at s) (after_at s) cap (head_of f) ≡ true) m.no_first m.closing.listed) in
       not_waiting (timer_at s p).waiting (λ e. count_zero (waits_at s) cap z p b (ap₂ ◌&&◌ (lt-ltb p cap b) e))
 
   -- no timer names a slot, for there is no entry
-  empty_bare : (p : ℕ) → p < cap → (timer_at s p).held ≡ Held.Nothing
+  empty_bare : (p : ℕ) → p < cap → (timer_at s p).held ≡ None
   empty_bare p b = go (timer_at s p).held refl
     where
-      go : (h : Held) → (timer_at s p).held ≡ h → (timer_at s p).held ≡ Held.Nothing
-      go Held.Nothing e = e
-      go (Held.At q) e =
+      go : (h : Option Slot) → (timer_at s p).held ≡ h → (timer_at s p).held ≡ None
+      go None e = e
+      go (Some q) e =
           let n = m.closing.tied.names p q b e in
           let l = lookup_some s.heap (sound_slab s.heap m.closing.tied.heap_sound) q.0 n.0 n.1 in
           absurd (omega (arith, l.1, m.none_left))

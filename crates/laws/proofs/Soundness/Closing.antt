@@ -4,13 +4,13 @@
 use mathlib.Core.Path.{◌≡◌, refl}
 use mathlib.Core.Bool.{Bool, true}
 use Prim.Native.Nat.{ℕ, ◌<◌}
+use Rattle.std.specs.Prelude.{None}
 use Rattle.theory.proofs.Tests.{true_false}
 use Rattle.heap.specs.Capacity.{cap}
 use Rattle.state.specs.declared.Life.{Life}
 use Rattle.state.specs.declared.Life.TheVariants.{Free, Live, Cancelled, Retired}
 use Rattle.state.specs.declared.Waiting.{Waiting}
 use Rattle.state.specs.declared.Waiting.TheVariants.{No}
-use Rattle.state.specs.declared.Held.TheVariants as Held
 use Rattle.state.specs.declared.Timer.{Timer}
 use Rattle.state.specs.declared.Set.{Set}
 use Rattle.state.specs.State.{timer_at}
@@ -53,7 +53,7 @@ marked_retired Retired e = refl
 
 -- a timer that is marked and forgets its slot is as fine as it was, whether it stays in the list or is taken off
 pub marked_fine : (t : Timer) (w : Waiting) → (t.waiting ≡ No → w ≡ No) → Fine true t
-    → Fine true (record { life = marked_life t.life; waiting = w; held = Held.Nothing; uses = t.uses })
+    → Fine true (record { life = marked_life t.life; waiting = w; held = None; uses = t.uses })
 marked_fine t w still f = record {
   free_unused = λ e. record { still = still (f.free_unused (marked_free t.life e)).still; bare = refl };
   retired_unused = λ e. record { still = still (f.retired_unused (marked_retired t.life e)).still; bare = refl };

@@ -5,6 +5,8 @@ use mathlib.Core.Path.{◌≡◌, refl, sym, ◌∙◌, ap}
 use mathlib.Core.Bool.{false}
 use Prim.Native.Nat.{ℕ, zero, suc, ◌<◌, ◌≤◌}
 use native.Mathlib.Omega.{arith}
+use Rattle.std.specs.Prelude.{Option, Some, None}
+use Rattle.heap.specs.declared.Place.{Place}
 use Rattle.theory.specs.Counting.{count}
 use Rattle.theory.specs.Chain.{chain_okb}
 use Rattle.theory.proofs.Tests.{is_false}
@@ -13,7 +15,6 @@ use Rattle.theory.proofs.ChainTest.{ok_none}
 use Rattle.heap.specs.Capacity.{cap}
 use Rattle.state.specs.declared.Waiting.{Waiting}
 use Rattle.state.specs.declared.Waiting.TheVariants.{No, Last, Before}
-use Rattle.state.specs.declared.First.{First}
 use Rattle.state.specs.declared.Set.{Set}
 use Rattle.state.specs.State.{timer_at, is_waiting, head_of}
 use Rattle.state.specs.Faults.{waits_at, after_at}
@@ -28,22 +29,22 @@ use Rattle.laws.proofs.Soundness.Settle.{waits_below, settled_settles}
 -- an open set in which no timer waits
 pub record Drained (s : Set) : Type 0 where
   pub is_open : Open s
-  pub first_none : s.first ≡ First.Nothing
+  pub first_none : s.first ≡ None
   pub none_waits : count (waits_at s) cap ≡ 0
 
 -- the list is empty where no timer waits
-empty_first : (s : Set) → Open s → count (waits_at s) cap ≡ 0 → s.first ≡ First.Nothing
+empty_first : (s : Set) → Open s → count (waits_at s) cap ≡ 0 → s.first ≡ None
 empty_first s o e = go s.first refl
   where
-    go : (f : First) → s.first ≡ f → s.first ≡ First.Nothing
-    go First.Nothing q = q
-    go (First.At p) q =
+    go : (f : Option Place) → s.first ≡ f → s.first ≡ None
+    go None q = q
+    go (Some p) q =
         let w = first_waits s p o.listed q in
         absurd (count_zero (waits_at s) cap e p.0 (waits_below s p.0 w) w)
 
 -- no timer waits where the list is empty
-pub empty_none : (s : Set) → Open s → s.first ≡ First.Nothing → count (waits_at s) cap ≡ 0
-empty_none s o e = ok_none (waits_at s) (after_at s) cap (ap (λ (f : First). chain_okb (waits_at s) (after_at s) cap (head_of f)) (sym e) ∙ o.listed)
+pub empty_none : (s : Set) → Open s → s.first ≡ None → count (waits_at s) cap ≡ 0
+empty_none s o e = ok_none (waits_at s) (after_at s) cap (ap (λ (f : Option Place). chain_okb (waits_at s) (after_at s) cap (head_of f)) (sym e) ∙ o.listed)
 
 -- as many turns as timers wait are enough
 drain_drained : (k : ℕ) (s : Set) → Open s → Words s → count (waits_at s) cap ≤ k → Drained (drain_from k s)
@@ -53,10 +54,10 @@ drain_drained zero s o w l =
     record { is_open = o; first_none = empty_first s o e; none_waits = e }
 drain_drained (suc k) s o w l = go s.first refl (λ r t v b. drain_drained k r t v b)
   where
-    go : (f : First) → s.first ≡ f → ((r : Set) → Open r → Words r → count (waits_at r) cap ≤ k → Drained (drain_from k r))
+    go : (f : Option Place) → s.first ≡ f → ((r : Set) → Open r → Words r → count (waits_at r) cap ≤ k → Drained (drain_from k r))
         → Drained (list_turn s f (λ p. drain_from k (settled_of s p)))
-    go First.Nothing e rest = record { is_open = o; first_none = e; none_waits = empty_none s o e }
-    go (First.At p) e rest =
+    go None e rest = record { is_open = o; first_none = e; none_waits = empty_none s o e }
+    go (Some p) e rest =
         let t = settled_settles s o w p.0 e in
         rest (settled_of s p.0) t.is_open (settled_words s p.0 w) (omega (arith, t.fewer))
 

@@ -9,6 +9,7 @@ use native.Mathlib.Omega.{arith}
 use lib.Dec.{ltb}
 use lib.ListN.{length-set}
 use lib.Seq.{get_or-set_other}
+use Rattle.std.specs.Prelude.{Option, Some, None}
 use Rattle.theory.proofs.Tests.{none_some}
 use Rattle.theory.proofs.Stores.{set_all, sees}
 use Rattle.theory.proofs.ChainChange.{chain_same}
@@ -26,7 +27,6 @@ use Rattle.heap.proofs.Slots.Kept.{pop_head, remove_len}
 use Rattle.heap.proofs.Soundness.SoundKept.{pop_sound_lem}
 use Rattle.heap.proofs.Slots.Lookup.{lookup_head, lookup_some}
 use Rattle.heap.proofs.Slots.BySlot.{pop_gone, pop_other}
-use Rattle.state.specs.declared.Held.{Held}
 use Rattle.state.specs.declared.Waiting.{Waiting}
 use Rattle.state.specs.declared.Timer.{Timer}
 use Rattle.state.specs.declared.Set.{Set}
@@ -54,7 +54,7 @@ pop_left h s b k e l =
     (n, sym (pop_other h s b k n) ∙ l)
 
 -- a place names one slot
-one_slot : {x : Held} {q r : Slot} → x ≡ Held.At q → x ≡ Held.At r → q.0 ≡ r.0
+one_slot : {x : Option Slot} {q r : Slot} → x ≡ Some q → x ≡ Some r → q.0 ≡ r.0
 one_slot {q = q} {r = r} a b = let e : q ≡ r = cc in ap (λ (y : Slot). y.0) e
 
 module _ (s : Set) (ties : Tied s) (b : 0 < s.heap.len) (t : Timer) where
@@ -72,12 +72,12 @@ module _ (s : Set) (ties : Tied s) (b : 0 < s.heap.len) (t : Timer) where
       set_all no_timer s.timers (entry_at s.heap 0).place.0 t (omega (arith, head_place, ties.timers_long)) P here there p
 
   -- a timer that forgets its slot leaves the set tied
-  pub headless_tied : t.held ≡ Held.Nothing → Tied (headless s t)
+  pub headless_tied : t.held ≡ None → Tied (headless s t)
   headless_tied bare = record {
     timers_long = length-set s.timers (entry_at s.heap 0).place.0 t ∙ ties.timers_long;
     heap_sound = pop_sound_lem s.heap ties.heap_sound;
     names = λ p q c e. headless_all
-        (λ p y. (q : Slot) → p < cap → y.held ≡ Held.At q → (e : Entry) × (lookup (pop_sound s.heap).state q.0 ≡ some e) × (e.place.0 ≡ p))
+        (λ p y. (q : Slot) → p < cap → y.held ≡ Some q → (e : Entry) × (lookup (pop_sound s.heap).state q.0 ≡ some e) × (e.place.0 ≡ p))
         (λ q c e. absurd (nothing_at bare e))
         (λ p n q c e. let r = ties.names p q c e in
         (r.0, pop_other s.heap slab b q.0 (λ x. n (sym r.2 ∙ ap (λ (y : Entry). y.place.0) (same p q r.0 r.1 x))) ∙ r.1, r.2))

@@ -7,6 +7,7 @@ use Prim.Native.Nat.{ℕ, ◌+◌, ◌*◌, ◌/◌, ◌%◌, ◌<◌}
 use native.Mathlib.Omega.{arith}
 use lib.Dec.{ltb, leb, eqb}
 use borrow.Author.Tests.{ltb-true}
+use Rattle.std.specs.Prelude.{None}
 use Rattle.theory.proofs.Tests.{and_left}
 use Rattle.heap.specs.Capacity.{cap}
 use Rattle.heap.specs.declared.Heap.{Heap}
@@ -14,7 +15,6 @@ use Rattle.heap.specs.Rules.{entry_at}
 use Rattle.word.specs.Rules.{invalid_in, fired_of, matches_in}
 use Rattle.state.specs.declared.Life.{Life}
 use Rattle.state.specs.declared.Life.TheVariants.{Free, Live, Cancelled, Retired}
-use Rattle.state.specs.declared.Held.TheVariants as Held
 use Rattle.state.specs.declared.Timer.{Timer}
 use Rattle.state.specs.declared.Set.{Set}
 use Rattle.state.specs.State.{timer_at}
@@ -40,7 +40,7 @@ rung_fine : (closed : Bool) (g : ℕ) (t : Timer) → Fine closed t → Fine clo
 rung_fine closed g t = go t.life refl
   where
     go : (l : Life) → t.life ≡ l → Fine closed t
-        → Fine closed (record { life = rung_life g l; waiting = t.waiting; held = Held.Nothing; uses = t.uses })
+        → Fine closed (record { life = rung_life g l; waiting = t.waiting; held = None; uses = t.uses })
     go Free e f = record {
       free_unused = λ _. record { still = (f.free_unused e).still; bare = refl };
       retired_unused = λ x. record { still = cc; bare = refl };

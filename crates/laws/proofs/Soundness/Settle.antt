@@ -9,6 +9,8 @@ use native.Mathlib.Decide.{ℕ_discrete}
 use native.Mathlib.Omega.{arith}
 use lib.Dec.{ltb}
 use borrow.Author.Tests.{ltb-true}
+use Rattle.std.specs.Prelude.{Option, Some, None}
+use Rattle.heap.specs.declared.Slot.{Slot}
 use Rattle.theory.specs.Counting.{count}
 use Rattle.theory.specs.Update.{upd}
 use Rattle.theory.proofs.Update.{upd_same, upd_other}
@@ -20,8 +22,6 @@ use Rattle.word.specs.Rules.{generation_of}
 use Rattle.state.specs.declared.Life.{Life}
 use Rattle.state.specs.declared.Life.TheVariants.{Free, Live, Cancelled, Retired}
 use Rattle.state.specs.declared.Waiting.TheVariants.{No}
-use Rattle.state.specs.declared.Held.{Held}
-use Rattle.state.specs.declared.First.{First}
 use Rattle.state.specs.declared.Timer.{Timer}
 use Rattle.state.specs.declared.Set.{Set}
 use Rattle.state.specs.State.{timer_at, is_waiting, head_after}
@@ -54,7 +54,7 @@ waits_below s p e = ltb-true p cap (and_left (ltb p cap) (is_waiting (timer_at s
 unused_waits : {A : Type 0} {t : Timer} → Unused t → is_waiting t.waiting ≡ true → A
 unused_waits u e = true_false e (ap is_waiting u.still)
 
-module _ (s : Set) (o : Open s) (words : Words s) (p : ℕ) (at : s.first ≡ First.At (record { 0 = p })) where
+module _ (s : Set) (o : Open s) (words : Words s) (p : ℕ) (at : s.first ≡ Some (record { 0 = p })) where
   -- the first timer's place is in range
   pub first_in : p < cap
   first_in = waits_below s p (first_waits s (record { 0 = p }) o.listed at)
@@ -78,8 +78,8 @@ module _ (s : Set) (o : Open s) (words : Words s) (p : ℕ) (at : s.first ≡ Fi
   }
 
   -- what the places name once the timer has dropped its entry
-  abbrev pub bare : ℕ → Held
-  bare = upd ℕ_discrete (held_at s) p Held.Nothing
+  abbrev pub bare : ℕ → Option Slot
+  bare = upd ℕ_discrete (held_at s) p None
 
   -- the heap then
   abbrev pub less : Heap
@@ -88,12 +88,12 @@ module _ (s : Set) (o : Open s) (words : Words s) (p : ℕ) (at : s.first ≡ Fi
   -- the two name each other
   pub less_slots : Slots less bare
   less_slots =
-      slots_dropped s.heap (held_at s) bare p o.slots (upd_other ℕ_discrete (held_at s) p Held.Nothing) first_in
-      (upd_same ℕ_discrete (held_at s) p Held.Nothing)
+      slots_dropped s.heap (held_at s) bare p o.slots (upd_other ℕ_discrete (held_at s) p None) first_in
+      (upd_same ℕ_discrete (held_at s) p None)
 
   -- there is room for an entry
   pub less_room : less.len < cap
-  less_room = room less bare less_slots p first_in (upd_same ℕ_discrete (held_at s) p Held.Nothing)
+  less_room = room less bare less_slots p first_in (upd_same ℕ_discrete (held_at s) p None)
 
   -- the new entry of a live timer
   module _ (w d : ℕ) where
@@ -112,9 +112,9 @@ module _ (s : Set) (o : Open s) (words : Words s) (p : ℕ) (at : s.first ≡ Fi
     more_slots b =
         let young : generation_of w < 2 ^ 30 = omega arith in
         slots_pushed less bare (held_at (after more live)) p less_slots
-        (λ x n. held_there s more p live (head_after (timer_at s p).waiting) x n ∙ sym (upd_other ℕ_discrete (held_at s) p Held.Nothing x n))
+        (λ x n. held_there s more p live (head_after (timer_at s p).waiting) x n ∙ sym (upd_other ℕ_discrete (held_at s) p None x n))
         d (generation_of w) first_in less_room young
-        (upd_same ℕ_discrete (held_at s) p Held.Nothing)
+        (upd_same ℕ_discrete (held_at s) p None)
         (ap (λ (u : Timer). u.held) (timer_here s more p live (head_after (timer_at s p).waiting) o.timers_long first_in))
 
     live_settles : (timer_at s p).life ≡ Live w d → Settles s p (after more live)

@@ -5,12 +5,13 @@ use mathlib.Core.Path.{◌≡◌, refl, sym, ◌∙◌}
 use mathlib.Core.Bool.{Bool, true, false}
 use Prim.Native.Nat.{ℕ, ◌<◌}
 use lib.ListN.{length}
+use Rattle.std.specs.Prelude.{Option}
+use Rattle.heap.specs.declared.Place.{Place}
 use Rattle.theory.proofs.Stores.{sees}
 use Rattle.heap.specs.Capacity.{cap}
 use Rattle.word.specs.Rules.{invalid_in}
 use Rattle.state.specs.declared.Life.{Life}
 use Rattle.state.specs.declared.Life.TheVariants.{Free, Live, Cancelled, Retired}
-use Rattle.state.specs.declared.First.{First}
 use Rattle.state.specs.declared.Timer.{Timer}
 use Rattle.state.specs.declared.Set.{Set}
 use Rattle.state.specs.State.{no_timer, timer_at, is_waiting}
@@ -32,11 +33,11 @@ Unmarked (Cancelled w) = invalid_in w ≡ false
 Unmarked Retired = ⊥
 
 -- the touched timer
-abbrev touched_by : Bool → Timer → First → Life → Timer
+abbrev touched_by : Bool → Timer → Option Place → Life → Timer
 touched_by b t f l = record { life = l; waiting = waiting_by b t f; held = t.held; uses = t.uses }
 
 -- it waits
-touched_waiting : (b : Bool) (t : Timer) (f : First) → is_waiting t.waiting ≡ b → is_waiting (waiting_by b t f) ≡ true
+touched_waiting : (b : Bool) (t : Timer) (f : Option Place) → is_waiting t.waiting ≡ b → is_waiting (waiting_by b t f) ≡ true
 touched_waiting true t f e = e
 touched_waiting false t f e = link_waits f
 

@@ -9,6 +9,8 @@ use native.Mathlib.Omega.{arith}
 use lib.Dec.{ltb}
 use lib.ListN.{length-set}
 use lib.Seq.{get_or-set_same, get_or-set_other}
+use Rattle.std.specs.Prelude.{Option, Some, None}
+use Rattle.heap.specs.declared.Place.{Place}
 use Rattle.theory.specs.Counting.{count}
 use Rattle.theory.specs.Chain.{chain_okb}
 use Rattle.theory.proofs.Stores.{set_all}
@@ -21,8 +23,6 @@ use Rattle.heap.specs.declared.Entry.{Entry}
 use Rattle.heap.specs.Lookup.{lookup}
 use Rattle.state.specs.declared.Waiting.{Waiting}
 use Rattle.state.specs.declared.Waiting.TheVariants.{No, Last, Before}
-use Rattle.state.specs.declared.Held.TheVariants as Held
-use Rattle.state.specs.declared.First.{First}
 use Rattle.state.specs.declared.Timer.{Timer}
 use Rattle.state.specs.declared.Set.{Set}
 use Rattle.state.specs.State.{no_timer, timer_at, is_waiting, next_in, head_of, head_after}
@@ -52,7 +52,7 @@ module _ (s : Set) (c : Closing s) (p : ℕ) (first : head_of s.first ≡ some p
   head_below = waits_below s p head_waits
 
   taken_off : Timer
-  taken_off = record { life = marked_life (timer_at s p).life; waiting = No; held = Held.Nothing; uses = (timer_at s p).uses }
+  taken_off = record { life = marked_life (timer_at s p).life; waiting = No; held = None; uses = (timer_at s p).uses }
 
   -- what it has once it is taken off, and all other timers have, all timers have
   unlisted_all : (P : ℕ → Timer → Type 0) → P p taken_off → ((x : ℕ) → (x ≡ p → ⊥) → P x (timer_at s x)) → (x : ℕ) → P x (timer_at (unlisted_of s p) x)
@@ -91,7 +91,7 @@ module _ (s : Set) (c : Closing s) (p : ℕ) (first : head_of s.first ≡ some p
       timers_long = length-set s.timers p taken_off ∙ c.tied.timers_long;
       heap_sound = c.tied.heap_sound;
       names = unlisted_all
-          (λ x y. (q : Slot) → x < cap → y.held ≡ Held.At q → (e : Entry) × (lookup s.heap q.0 ≡ some e) × (e.place.0 ≡ x))
+          (λ x y. (q : Slot) → x < cap → y.held ≡ Some q → (e : Entry) × (lookup s.heap q.0 ≡ some e) × (e.place.0 ≡ x))
           (λ q b e. absurd (nothing_at refl e)) (λ x n q b e. c.tied.names x q b e);
       ranges = c.tied.ranges;
     };
@@ -102,21 +102,21 @@ module _ (s : Set) (c : Closing s) (p : ℕ) (first : head_of s.first ≡ some p
   }
 
 -- after as many turns as timers wait the list is empty
-pub unlist_all : (k : ℕ) (s : Set) → Closing s → count (waits_at s) cap ≤ k → Closing (unlist_from k s) × ((unlist_from k s).first ≡ First.Nothing)
+pub unlist_all : (k : ℕ) (s : Set) → Closing s → count (waits_at s) cap ≤ k → Closing (unlist_from k s) × ((unlist_from k s).first ≡ None)
 unfolding unlist_from
 unlist_all zero s c b = (c, go s.first refl)
   where
-    go : (f : First) → s.first ≡ f → s.first ≡ First.Nothing
-    go First.Nothing e = e
-    go (First.At x) e =
+    go : (f : Option Place) → s.first ≡ f → s.first ≡ None
+    go None e = e
+    go (Some x) e =
         let w = head_waits s c x.0 (ap head_of e) in
         absurd (count_zero (waits_at s) cap (omega arith) x.0 (waits_below s x.0 w) w)
 unlist_all (suc k) s c b = go s.first refl (λ p. unlist_all k (unlisted_of s p))
   where
-    go : (f : First) → s.first ≡ f
+    go : (f : Option Place) → s.first ≡ f
         → ((p : ℕ) → Closing (unlisted_of s p) → count (waits_at (unlisted_of s p)) cap ≤ k
-        → Closing (unlist_from k (unlisted_of s p)) × ((unlist_from k (unlisted_of s p)).first ≡ First.Nothing))
-        → Closing (list_turn s f (λ p. unlist_from k (unlisted_of s p))) × ((list_turn s f (λ p. unlist_from k (unlisted_of s p))).first ≡ First.Nothing)
-    go First.Nothing e next = (c, e)
-    go (First.At x) e next =
+        → Closing (unlist_from k (unlisted_of s p)) × ((unlist_from k (unlisted_of s p)).first ≡ None))
+        → Closing (list_turn s f (λ p. unlist_from k (unlisted_of s p))) × ((list_turn s f (λ p. unlist_from k (unlisted_of s p))).first ≡ None)
+    go None e next = (c, e)
+    go (Some x) e next =
         next x.0 (unlisted_closing s c x.0 (ap head_of e)) (omega (arith, unlisted_count s c x.0 (ap head_of e)))

@@ -5,6 +5,8 @@ use mathlib.Core.Path.{◌≡◌, refl, sym, ap, subst}
 use mathlib.Core.List.{List}
 use Prim.Native.Nat.{ℕ, zero, suc}
 use lib.ListN.{set}
+use Rattle.std.specs.Prelude.{Option, Some, None}
+use Rattle.heap.specs.declared.Place.{Place}
 use Rattle.refusals.specs.Answer.{Answer}
 use Rattle.heap.specs.declared.Slot.{Slot}
 use Rattle.heap.specs.declared.Heap.{Heap}
@@ -16,8 +18,6 @@ use Rattle.word.specs.Rules.{generation_of}
 use Rattle.state.specs.declared.Life.{Life}
 use Rattle.state.specs.declared.Life.TheVariants.{Free, Live, Cancelled, Retired}
 use Rattle.state.specs.declared.Waiting.TheVariants.{No}
-use Rattle.state.specs.declared.Held.{Held}
-use Rattle.state.specs.declared.First.{First}
 use Rattle.state.specs.declared.Timer.{Timer}
 use Rattle.state.specs.declared.Set.{Set}
 use Rattle.state.specs.State.{timer_at, head_after}
@@ -57,13 +57,13 @@ touched_alike r p l = by_alike (λ (a b : Set). Alike (touched_of a p l) (touche
 
 -- the heap without the entry that a timer holds
 module _ (g h : Heap) (r : Heap.Twins g h) (s : Sound h) where
-  dropped_twins : (d : Held) → Heap.Twins (dropped_of g d) (dropped_of h d)
-  dropped_twins Held.Nothing = r
-  dropped_twins (Held.At q) = (remove_sound_in_use g h r s q).states
+  dropped_twins : (d : Option Slot) → Heap.Twins (dropped_of g d) (dropped_of h d)
+  dropped_twins None = r
+  dropped_twins (Some q) = (remove_sound_in_use g h r s q).states
 
-  dropped_sound : (d : Held) → Sound (dropped_of h d)
-  dropped_sound Held.Nothing = s
-  dropped_sound (Held.At q) = remove_sound_lem h s q
+  dropped_sound : (d : Option Slot) → Sound (dropped_of h d)
+  dropped_sound None = s
+  dropped_sound (Some q) = remove_sound_lem h s q
 
 module _ (s : Set) (g : Heap) (r : Heap.Twins g s.heap) (h : Sound s.heap) (p : ℕ) (t : Timer) where
   -- the update, by whose place it is: both pushes answer the same slot
@@ -91,11 +91,11 @@ settled_alike r p =
 pub turn_alike : {a b : Set} {m n : ℕ → Set} → Alike a b → ((p : ℕ) → Alike (m p) (n p))
     → Alike (list_turn a a.first m) (list_turn b b.first n)
 turn_alike {a} {b} {m} {n} r f =
-    subst (λ (x : First). Alike (list_turn a x m) (list_turn b b.first n)) (sym r.twins.same.same_first) (go b.first)
+    subst (λ (x : Option Place). Alike (list_turn a x m) (list_turn b b.first n)) (sym r.twins.same.same_first) (go b.first)
   where
-    go : (x : First) → Alike (list_turn a x m) (list_turn b x n)
-    go First.Nothing = r
-    go (First.At p) = f p.0
+    go : (x : Option Place) → Alike (list_turn a x m) (list_turn b x n)
+    go None = r
+    go (Some p) = f p.0
 
 -- the updates in list order
 pub drain_alike : (k : ℕ) {a b : Set} → Alike a b → Alike (drain_from k a) (drain_from k b)

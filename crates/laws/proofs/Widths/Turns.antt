@@ -6,6 +6,9 @@ use mathlib.Core.Bool.{Bool, true, false, cond}
 use mathlib.Core.List.{List}
 use Prim.Native.Nat.{ℕ, ◌<◌, ◌^◌}
 use native.Mathlib.Omega.{arith}
+use Rattle.std.specs.Prelude.{Option, Some, None}
+use Rattle.heap.specs.declared.Place.{Place}
+use Rattle.heap.specs.declared.Slot.{Slot}
 use Rattle.theory.proofs.Tests.{ref_eq, cond-ref}
 use Rattle.heap.specs.declared.Entry.{Entry}
 use Rattle.heap.specs.declared.Heap.{Heap}
@@ -17,8 +20,6 @@ use Rattle.heap.proofs.Soundness.EachEntry.{Each, push_each, remove_each, pop_ea
 use Rattle.word.specs.Rules.{generation_of, fired_of, matches_in}
 use Rattle.state.specs.declared.Life.{Life}
 use Rattle.state.specs.declared.Life.TheVariants.{Free, Live, Cancelled, Retired}
-use Rattle.state.specs.declared.Held.{Held}
-use Rattle.state.specs.declared.First.{First}
 use Rattle.state.specs.declared.Timer.{Timer}
 use Rattle.state.specs.declared.Set.{Set}
 use Rattle.state.specs.State.{timer_at, is_waiting, head_after}
@@ -46,9 +47,9 @@ pub record Wide (s : Set) : Type 0 where
 -- THE HEAP
 
 -- without the entry that a timer holds
-dropped_timed : (h : Heap) (d : Held) → TimedHeap h → TimedHeap (dropped_of h d)
-dropped_timed h Held.Nothing t = t
-dropped_timed h (Held.At q) t = record { sound = remove_sound_lem h t.sound q; each = remove_each Timed h t.each t.sound q }
+dropped_timed : (h : Heap) (d : Option Slot) → TimedHeap h → TimedHeap (dropped_of h d)
+dropped_timed h None t = t
+dropped_timed h (Some q) t = record { sound = remove_sound_lem h t.sound q; each = remove_each Timed h t.each t.sound q }
 
 -- with a new one
 pushed_timed : (h : Heap) (d g p : ℕ) → TimedHeap h → IsTime d → TimedHeap (push_sound h d g (record { 0 = p })).state
@@ -94,7 +95,7 @@ marked_widths Retired b = tt
 -- THE TURNS
 
 -- another heap, list head and timer at a place, in range or not
-wide_changed : (s : Set) (h : Heap) (p : ℕ) (t : Timer) (f : First) → Wide s → TimedHeap h → TimerWidths t → Wide (changed s h p t f)
+wide_changed : (s : Set) (h : Heap) (p : ℕ) (t : Timer) (f : Option Place) → Wide s → TimedHeap h → TimerWidths t → Wide (changed s h p t f)
 wide_changed s h p t f w heap new = record {
   heap_timed = heap;
   each_timer = λ x. store_rel (λ _ a b. TimerWidths a → TimerWidths b) (λ _ _ y. y) s.timers p t (λ _. new) x (w.each_timer x);
