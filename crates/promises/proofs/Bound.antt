@@ -8,6 +8,8 @@ use Prim.Native.Nat.{ℕ, zero, suc, ◌+◌, ◌*◌, ◌%◌, ◌≤◌, ◌<�
 use native.Mathlib.Omega.{arith}
 use lib.Dec.{leb}
 use lib.ListN.{set, replicate}
+use Rattle.std.specs.Prelude.{Option, Some, None}
+use Rattle.heap.specs.declared.Place.{Place}
 use Rattle.theory.specs.First.{first_bad}
 use Rattle.theory.specs.Tests.{bit}
 use Rattle.theory.specs.Occurs.{times}
@@ -21,8 +23,6 @@ use Rattle.heap.specs.Calls.{push_sound}
 use Rattle.state.specs.declared.Life.TheVariants.{Live}
 use Rattle.state.specs.declared.Waiting.{Waiting}
 use Rattle.state.specs.declared.Waiting.TheVariants.{No, Last}
-use Rattle.state.specs.declared.Held.TheVariants as Held
-use Rattle.state.specs.declared.First.{First}
 use Rattle.state.specs.declared.Set.{Set}
 use Rattle.state.specs.declared.Handle.{Handle}
 use Rattle.state.specs.State.{no_timer, fresh_of}
@@ -47,21 +47,21 @@ use Rattle.promises.proofs.Meeting.{advance_accepted}
 -- THE SETS
 
 -- a set of one timer, with an entry at 10 that is of generation 0
-abbrev holding : Waiting → First → ℕ → ℕ → Set
+abbrev holding : Waiting → Option Place → ℕ → ℕ → Set
 holding w f word d = record {
   heap = (push_sound Heap.fresh_of 10 0 (record { 0 = 0 })).state;
-  timers = set (replicate cap no_timer) 0 (record { life = Live word d; waiting = w; held = Held.At (record { 0 = 0 }); uses = 0 });
+  timers = set (replicate cap no_timer) 0 (record { life = Live word d; waiting = w; held = Some (record { 0 = 0 }); uses = 0 });
   first = f;
   closed = false;
 }
 
 -- a set in which it waits for a drain
 abbrev awaiting : ℕ → Set
-awaiting word = holding Last (First.At (record { 0 = 0 })) word 20
+awaiting word = holding Last (Some (record { 0 = 0 })) word 20
 
 -- what n resets leave
 abbrev stuck : ℕ → Set
-stuck zero = holding No First.Nothing 0 10
+stuck zero = holding No None 0 10
 stuck (suc n) = awaiting (suc n % 2 ^ 30 * 4)
 
 -- what the add leaves

@@ -6,6 +6,7 @@ use mathlib.Core.Bool.{Bool, true, false, cond}
 use mathlib.Core.List.{List, [], ◌∷◌, ◌++◌}
 use Prim.Native.Nat.{ℕ}
 use lib.ListN.{replicate}
+use Rattle.std.specs.Prelude.{None}
 use Rattle.theory.specs.Chain.{nodes}
 use Rattle.theory.specs.First.{first_bad}
 use Rattle.refusals.specs.Answer.{Answer, Outcome, accepted, refused}
@@ -14,7 +15,6 @@ use Rattle.heap.specs.Rules.{put_at, swap_at, rises_at, up_from, child_of, down_
 use Rattle.heap.specs.Calls.{push_sound, remove_sound, pop_sound, peek_sound}
 use Rattle.state.specs.declared.Life.TheVariants.{Live, Retired}
 use Rattle.state.specs.declared.Waiting.TheVariants.{Last}
-use Rattle.state.specs.declared.Held.TheVariants as Held
 use Rattle.state.specs.declared.Timer.{Timer}
 use Rattle.state.specs.State.{timer_at}
 use Rattle.moves.specs.Rules.{touched_of, taken, lowest_free, settled_of, drain_from, due_by, rung_of, ring_from, advanced_of}
@@ -83,7 +83,7 @@ computed_rows = (refl, refl)
 
 -- the timer that gets it
 abbrev given : Timer
-given = record { life = Live 0 10; waiting = Last; held = Held.Nothing; uses = 4294967295 }
+given = record { life = Live 0 10; waiting = Last; held = None; uses = 4294967295 }
 
 module _ (l : List ℕ) where
   -- the place is freed, and an add gets it; or it is retired

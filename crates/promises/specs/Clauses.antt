@@ -5,7 +5,9 @@
 -- two halves is two tests. Clause 7 has none: only a live timer of the type `Life` has a deadline. Nor has a number that its type keeps
 -- in range: a word, a use number, a time.
 -- Assumes nothing.
-use Rattle.std.specs.Prelude.{Bool, true, false, not, cond, ◌&&◌, ◌||◌, List, [], ◌∷◌, ℕ, zero, suc, ◌+◌, ◌^◌, ltb, leb, eqb, take}
+use Rattle.std.specs.Prelude.{Bool, true, false, not, cond, ◌&&◌, ◌||◌, List, [], ◌∷◌, ℕ, zero, suc, ◌+◌, ◌^◌, ltb, leb, eqb, take, Some, None}
+use Rattle.std.specs.Prelude as Code
+use Rattle.heap.specs.declared.Slot.{Slot}
 use Rattle.std.proofs.Math.Option.{Option, none, some}
 use Rattle.theory.specs.Order.{parent}
 use Rattle.theory.specs.Chain.{nodes}
@@ -19,7 +21,6 @@ use Rattle.heap.specs.Rules.{items}
 use Rattle.word.specs.Rules.{invalid_in}
 use Rattle.state.specs.declared.Life.{Life}
 use Rattle.state.specs.declared.Life.TheVariants.{Free, Live, Cancelled, Retired}
-use Rattle.state.specs.declared.Held.{Held}
 use Rattle.state.specs.declared.Set.{Set}
 use Rattle.state.specs.State.{is_waiting, next_in, head_of}
 
@@ -113,9 +114,9 @@ chained s =
 -- THE CLAUSES OF A SET. Clauses 2, 3 and 5 are read of every place, since in the code each has room for a slot and a waiting mark
 
 -- the slot that a place names
-abbrev pub slot_of : Held → Option ℕ
-slot_of Held.Nothing = none
-slot_of (Held.At q) = some q.0
+abbrev pub slot_of : Code.Option Slot → Option ℕ
+slot_of None = none
+slot_of (Some q) = some q.0
 
 -- the entry in a slot: the slot was made, is full, and an entry stands at the position that it names
 abbrev pub entry_in : Heap → ℕ → Option Entry

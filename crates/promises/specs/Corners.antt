@@ -1,7 +1,9 @@
 -- Further rows, beside the bench sheet: rules that no row of it asks, and that a run alone, or the comparison with the Rust, would show.
 -- Each is worked out from RULES.md by hand. A row is right where the rules compute its answer.
 -- Assumes nothing.
-use Rattle.std.specs.Prelude.{Bool, cond, ◌&&◌, List, [], ◌∷◌, ◌++◌, ℕ, ◌-◌, eqb, replicate}
+use Rattle.std.specs.Prelude.{Bool, cond, ◌&&◌, List, [], ◌∷◌, ◌++◌, ℕ, ◌-◌, eqb, replicate, Some, None}
+use Rattle.std.specs.Prelude as Code
+use Rattle.heap.specs.declared.Slot.{Slot}
 use Rattle.std.proofs.Math.Option.{Option, none, some}
 use Rattle.refusals.specs.Faults.{kind_of, where_of}
 use Rattle.refusals.specs.Answer.{Answer, accepted, refused, unsound}
@@ -13,7 +15,6 @@ use Rattle.state.specs.declared.Life.{Life}
 use Rattle.state.specs.declared.Life.TheVariants.{Free, Live, Cancelled, Retired}
 use Rattle.state.specs.declared.Waiting.{Waiting}
 use Rattle.state.specs.declared.Waiting.TheVariants.{No, Last, Before}
-use Rattle.state.specs.declared.Held.{Held}
 use Rattle.state.specs.declared.Timer.{Timer}
 use Rattle.state.specs.declared.Set.{Set}
 use Rattle.state.specs.declared.Handle.{Handle}
@@ -62,9 +63,9 @@ waiting_code No = 0 ∷ []
 waiting_code Last = 1 ∷ []
 waiting_code (Before q) = 2 ∷ q.0 ∷ []
 
-abbrev pub held_code : Held → List ℕ
-held_code Held.Nothing = 0 ∷ []
-held_code (Held.At q) = 1 ∷ q.0 ∷ []
+abbrev pub held_code : Code.Option Slot → List ℕ
+held_code None = 0 ∷ []
+held_code (Some q) = 1 ∷ q.0 ∷ []
 
 abbrev pub name_code : Option Handle → List ℕ
 name_code none = []
@@ -95,11 +96,11 @@ wrong = wrong_by step
 
 -- a place with a use number, and nothing else but what it is
 abbrev pub place : Life → ℕ → Timer
-place l u = record { life = l; waiting = No; held = Held.Nothing; uses = u }
+place l u = record { life = l; waiting = No; held = None; uses = u }
 
 -- a cancelled timer with this use number, which a drain reaches
 abbrev pub cancelled_at : ℕ → Timer
-cancelled_at u = record { life = Cancelled 0; waiting = Last; held = Held.Nothing; uses = u }
+cancelled_at u = record { life = Cancelled 0; waiting = Last; held = None; uses = u }
 
 -- it is at place 0: of a set whose other places are free, and of one whose other places are all live
 abbrev pub alone : ℕ → Drawn

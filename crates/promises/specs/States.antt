@@ -5,7 +5,9 @@
 -- is right where the test says yes of the first set and no of the second, the first breaks no clause, and the second just those. The
 -- heap of each is a heap used alone: its test says yes where no clause of it is broken.
 -- Assumes nothing.
-use Rattle.std.specs.Prelude.{Bool, true, false, cond, ◌&&◌, List, [], ◌∷◌, ◌++◌, ℕ, zero, suc, ◌+◌, ◌-◌, ◌^◌, ltb, eqb, length, replicate}
+use Rattle.std.specs.Prelude.{Bool, true, false, cond, ◌&&◌, List, [], ◌∷◌, ◌++◌, ℕ, zero, suc, ◌+◌, ◌-◌, ◌^◌, ltb, eqb, length, replicate, Option, Some, None}
+use Rattle.heap.specs.declared.Place.{Place}
+use Rattle.heap.specs.declared.Slot.{Slot}
 use Rattle.theory.specs.Tests.{bit}
 use Rattle.heap.specs.Capacity.{cap}
 use Rattle.heap.specs.declared.Entry.{Entry}
@@ -18,8 +20,6 @@ use Rattle.state.specs.declared.Life.{Life}
 use Rattle.state.specs.declared.Life.TheVariants.{Free, Live, Cancelled, Retired}
 use Rattle.state.specs.declared.Waiting.{Waiting}
 use Rattle.state.specs.declared.Waiting.TheVariants.{No, Last, Before}
-use Rattle.state.specs.declared.Held.{Held}
-use Rattle.state.specs.declared.First.{First}
 use Rattle.state.specs.declared.Timer.{Timer}
 use Rattle.state.specs.declared.Set.{Set}
 use Rattle.state.specs.State.{no_timer}
@@ -42,7 +42,7 @@ pub record Drawn : Type 0 where
   pub heap : DrawnHeap
   pub start : ℕ
   pub timers : List Timer
-  pub first : First
+  pub first : Option Place
   pub closed : Bool
 
 -- n elements of an array that are not in use
@@ -104,40 +104,40 @@ abbrev pub bare : DrawnHeap
 bare = heap [] [] 0
 
 -- timers by their life, their link and their slot
-abbrev pub timer : Life → Waiting → Held → Timer
+abbrev pub timer : Life → Waiting → Option Slot → Timer
 timer l w h = record { life = l; waiting = w; held = h; uses = 0 }
 
-abbrev pub live : Waiting → Held → Timer
+abbrev pub live : Waiting → Option Slot → Timer
 live w h = timer (Live 0 5) w h
 
-abbrev pub cancelled : Waiting → Held → Timer
+abbrev pub cancelled : Waiting → Option Slot → Timer
 cancelled w h = timer (Cancelled 0) w h
 
-abbrev pub no_slot : Held
-no_slot = Held.Nothing
+abbrev pub no_slot : Option Slot
+no_slot = None
 
-abbrev pub in_slot : ℕ → Held
-in_slot q = Held.At (record { 0 = q })
+abbrev pub in_slot : ℕ → Option Slot
+in_slot q = Some (record { 0 = q })
 
 abbrev pub before : ℕ → Waiting
 before p = Before (record { 0 = p })
 
 -- the head of the list
-abbrev pub nobody : First
-nobody = First.Nothing
+abbrev pub nobody : Option Place
+nobody = None
 
-abbrev pub from : ℕ → First
-from p = First.At (record { 0 = p })
+abbrev pub from : ℕ → Option Place
+from p = Some (record { 0 = p })
 
 -- an open set and a closed one: these timers by place, and the rest of the places free
-abbrev pub an_open : DrawnHeap → List Timer → First → Drawn
+abbrev pub an_open : DrawnHeap → List Timer → Option Place → Drawn
 an_open h ts f = record { heap = h; start = 0; timers = ts; first = f; closed = false }
 
-abbrev pub a_closed : DrawnHeap → List Timer → First → Drawn
+abbrev pub a_closed : DrawnHeap → List Timer → Option Place → Drawn
 a_closed h ts f = record { heap = h; start = 0; timers = ts; first = f; closed = true }
 
 -- an open set with this timer at the last place, and the rest of the places free
-abbrev pub at_last : DrawnHeap → Timer → First → Drawn
+abbrev pub at_last : DrawnHeap → Timer → Option Place → Drawn
 at_last h t f = record { heap = h; start = cap - 1; timers = t ∷ []; first = f; closed = false }
 
 -- ROWS

@@ -6,6 +6,9 @@ use mathlib.Core.Option.{Option, none, some}
 use Prim.Native.Nat.{ℕ, ◌≤◌, ◌<◌, ◌^◌}
 use lib.Dec.{ltb, eqb}
 use lib.ListN.{length, take}
+use Rattle.std.specs.Prelude as Code
+use Rattle.std.specs.Prelude.{Some, None}
+use Rattle.heap.specs.declared.Slot.{Slot}
 use Rattle.theory.specs.Tests.{Ref}
 use Rattle.theory.specs.Counting.{Mem}
 use Rattle.theory.proofs.Tests.{ref_lt, ref_eq, ref_and, ref_map, none_some}
@@ -16,7 +19,6 @@ use Rattle.heap.specs.declared.SlotState.{SlotState}
 use Rattle.heap.specs.declared.SlotState.TheVariants.{Full, Empty}
 use Rattle.heap.specs.Rules.{entry_at, state_at, items}
 use Rattle.state.specs.declared.Life.{Life}
-use Rattle.state.specs.declared.Held.{Held}
 use Rattle.state.specs.declared.Timer.{Timer}
 use Rattle.state.specs.declared.Set.{Set}
 use Rattle.state.specs.State.{timer_at}
@@ -26,9 +28,9 @@ use Rattle.promises.proofs.ByClause.ClauseHeap.{items_long, item_in, in_item, sl
 use Rattle.promises.proofs.ByClause.ClauseTimers.{ref_timers}
 
 -- a timer that names a slot
-pub slot_held : (d : Held) (q : ℕ) → slot_of d ≡ some q → d ≡ Held.At (record { 0 = q })
-slot_held Held.Nothing q e = absurd (none_some refl e)
-slot_held (Held.At r) q e = let z : r.0 ≡ q = cc in ap (λ (k : ℕ). Held.At (record { 0 = k })) z
+pub slot_held : (d : Code.Option Slot) (q : ℕ) → slot_of d ≡ some q → d ≡ Some (record { 0 = q })
+slot_held None q e = absurd (none_some refl e)
+slot_held (Some r) q e = let z : r.0 ≡ q = cc in ap (λ (k : ℕ). Some (record { 0 = k })) z
 
 -- the slot q was made and is full, and the entry at the position that it names is e
 pub record Stands (s : Set) (q : ℕ) (e : Entry) : Type 0 where

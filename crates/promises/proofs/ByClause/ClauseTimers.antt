@@ -9,6 +9,8 @@ use native.Mathlib.Omega.{arith}
 use lib.Dec.{ltb, eqb}
 use lib.ListN.{length, get_or-eq_default}
 use borrow.Author.Tests.{ltb-true, lt-ltb}
+use Rattle.std.specs.Prelude.{Option, Some, None}
+use Rattle.heap.specs.declared.Place.{Place}
 use Rattle.theory.specs.Tests.{Ref}
 use Rattle.theory.specs.Counting.{Mem, Lists}
 use Rattle.theory.specs.Chain.{nodes, Chain, chain_okb}
@@ -20,7 +22,6 @@ use Rattle.heap.specs.Capacity.{cap}
 use Rattle.word.specs.Rules.{invalid_in}
 use Rattle.state.specs.declared.Life.{Life}
 use Rattle.state.specs.declared.Life.TheVariants.{Free, Live, Cancelled, Retired}
-use Rattle.state.specs.declared.First.{First}
 use Rattle.state.specs.declared.Timer.{Timer}
 use Rattle.state.specs.declared.Set.{Set}
 use Rattle.state.specs.State.{no_timer, timer_at, is_waiting, next_in, head_of}
@@ -140,15 +141,15 @@ module _ (s : Set) (n : length s.timers ≡ cap) where
       (ref_timers _ _ (λ p l. ref_any (λ w. invalid_in w ≡ false) (λ w. not (invalid_in w)) (cancelled_word (timer_at s p).life) (λ w. ref_off (invalid_in w))))
 
   -- 43: the list of a closed set is empty
-  pub ref_closed_list : Ref (s.closed ≡ true → s.first ≡ First.Nothing) (closed_list s)
+  pub ref_closed_list : Ref (s.closed ≡ true → s.first ≡ None) (closed_list s)
   ref_closed_list =
       ref_shut s.closed
       (ref_map (ref_empty (listed s)) (λ e. go s.first (sym listed_same ∙ e))
-      (λ e. listed_same ∙ ap (λ (f : First). nodes (after_at s) (suc cap) (head_of f)) e ∙ nodes_none (after_at s) (suc cap)))
+      (λ e. listed_same ∙ ap (λ (f : Option Place). nodes (after_at s) (suc cap) (head_of f)) e ∙ nodes_none (after_at s) (suc cap)))
     where
-      go : (f : First) → nodes (after_at s) (suc cap) (head_of f) ≡ [] → f ≡ First.Nothing
-      go First.Nothing e = refl
-      go (First.At p) e = absurd (nodes_some (after_at s) cap p.0 e)
+      go : (f : Option Place) → nodes (after_at s) (suc cap) (head_of f) ≡ [] → f ≡ None
+      go None e = refl
+      go (Some p) e = absurd (nodes_some (after_at s) cap p.0 e)
 
   -- 53, 54: no place of this kind is in the list
   pub ref_none_listed : (kind : Life → Bool)

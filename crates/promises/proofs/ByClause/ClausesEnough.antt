@@ -5,6 +5,7 @@ use mathlib.Core.Bool.{Bool, true, not}
 use mathlib.Core.Option.{some}
 use Prim.Native.Nat.{ℕ, ◌≤◌, ◌<◌}
 use lib.ListN.{length}
+use Rattle.std.specs.Prelude.{Option, Some, None}
 use Rattle.theory.proofs.Tests.{ref_le, ref_true, true_false, is_false}
 use Rattle.heap.specs.Capacity.{cap}
 use Rattle.heap.specs.declared.Slot.{Slot}
@@ -12,7 +13,6 @@ use Rattle.heap.specs.declared.Entry.{Entry}
 use Rattle.heap.specs.Rules.{entry_at}
 use Rattle.heap.specs.Sound as Heap
 use Rattle.state.specs.declared.Life.{Life}
-use Rattle.state.specs.declared.Held.{Held}
 use Rattle.state.specs.declared.Set.{Set}
 use Rattle.state.specs.State.{timer_at, is_waiting}
 use Rattle.state.specs.Sound.{Unused, Owns, Sound}
@@ -46,13 +46,13 @@ module _ (s : Set) (n : length s.timers ≡ cap) (m : length s.heap.entries ≡ 
   }
 
   -- the entry in the slot that a timer names
-  stands : (p : ℕ) (q : Slot) → p < cap → (timer_at s p).held ≡ Held.At q → (e : Entry) × Stands s q.0 e × (e.place.0 ≡ p)
+  stands : (p : ℕ) (q : Slot) → p < cap → (timer_at s p).held ≡ Some q → (e : Entry) × Stands s q.0 e × (e.place.0 ≡ p)
   stands p q l e =
       let t = ref_true (ref_own_slots s n m k fit room) c.c21 p l q.0 (ap slot_of e) in
       (t.0, in_stands s n m k fit room q.0 t.0 t.1, t.2)
 
   -- and that is the timer's own
-  owns : (p : ℕ) (q : Slot) → p < cap → (timer_at s p).held ≡ Held.At q → Owns s p q
+  owns : (p : ℕ) (q : Slot) → p < cap → (timer_at s p).held ≡ Some q → Owns s p q
   owns p q l e =
       let t = stands p q l e in
       record {
@@ -67,7 +67,7 @@ module _ (s : Set) (n : length s.timers ≡ cap) (m : length s.heap.entries ≡ 
   place_in = (ref_true (ref_places s n m k fit room) c.c82).0
 
   -- an entry's place names its slot
-  named : (i : ℕ) → i < s.heap.len → (timer_at s (entry_at s.heap i).place.0).held ≡ Held.At (entry_at s.heap i).slot
+  named : (i : ℕ) → i < s.heap.len → (timer_at s (entry_at s.heap i).place.0).held ≡ Some (entry_at s.heap i).slot
   named i l =
       let e = entry_at s.heap i in
       let f = heap_sound.forth i l in
@@ -87,9 +87,9 @@ module _ (s : Set) (n : length s.timers ≡ cap) (m : length s.heap.entries ≡ 
     bare = go (timer_at s p).held refl;
   }
     where
-      go : (d : Held) → (timer_at s p).held ≡ d → d ≡ Held.Nothing
-      go Held.Nothing z = refl
-      go (Held.At q) z =
+      go : (d : Option Slot) → (timer_at s p).held ≡ d → d ≡ None
+      go None z = refl
+      go (Some q) z =
           let t = stands p q l z in
           let j = ap (λ (x : Entry). x.place.0) t.1.entry ∙ t.2 in
           true_false e

@@ -4,6 +4,7 @@ use mathlib.Core.Path.{◌≡◌, refl, sym, ap, subst, ◌∙◌}
 use mathlib.Core.Bool.{Bool, true, false≢true}
 use Prim.Native.Nat.{ℕ, ◌≤◌, ◌<◌}
 use lib.ListN.{length}
+use Rattle.std.specs.Prelude.{Some}
 use Rattle.theory.specs.Counting.{Lists}
 use Rattle.theory.proofs.Tests.{ref_le, true_ref, true_false, is_false}
 use Rattle.heap.specs.Capacity.{cap}
@@ -12,7 +13,6 @@ use Rattle.heap.specs.Rules.{entry_at}
 use Rattle.heap.proofs.Soundness.SoundFacts.{full_back}
 use Rattle.state.specs.declared.Life.{Life}
 use Rattle.state.specs.declared.Life.TheVariants.{Free, Live, Cancelled, Retired}
-use Rattle.state.specs.declared.Held.{Held}
 use Rattle.state.specs.declared.Timer.{Timer}
 use Rattle.state.specs.declared.Set.{Set}
 use Rattle.state.specs.State.{timer_at, is_waiting}
@@ -100,9 +100,9 @@ module _ (s : Set) (n : length s.timers ≡ cap) (m : length s.heap.entries ≡ 
       let i = d.position.0 in
       let f = full_back s.heap g.heap_sound q d.position d.made d.full in
       let r = in_timer s n e.place.0 t z in
-      let v : (timer_at s e.place.0).held ≡ Held.At (entry_at s.heap i).slot =
-      subst (λ (x : Entry). (timer_at s x.place.0).held ≡ Held.At (entry_at s.heap i).slot) d.entry (g.entry_own i d.in_use) in
-      let y : t.held ≡ Held.At (entry_at s.heap i).slot = sym (ap (λ (x : Timer). x.held) r.1) ∙ v in
+      let v : (timer_at s e.place.0).held ≡ Some (entry_at s.heap i).slot =
+      subst (λ (x : Entry). (timer_at s x.place.0).held ≡ Some (entry_at s.heap i).slot) d.entry (g.entry_own i d.in_use) in
+      let y : t.held ≡ Some (entry_at s.heap i).slot = sym (ap (λ (x : Timer). x.held) r.1) ∙ v in
       ((entry_at s.heap i).slot.0, ap slot_of y, sym f.1))
 
   -- a sound set keeps all clauses

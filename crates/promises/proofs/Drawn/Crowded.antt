@@ -10,12 +10,13 @@ use Prim.Native.Nat.{ℕ, zero, suc, ◌+◌, ◌-◌, ◌<◌}
 use native.Mathlib.Omega.{arith}
 use lib.Dec.{ltb}
 use lib.ListN.{length, get_or}
+use Rattle.std.specs.Prelude as Code
+use Rattle.heap.specs.declared.Place.{Place}
 use Rattle.theory.specs.Chain.{nodes}
 use Rattle.theory.proofs.First.{all_none}
 use Rattle.refusals.specs.Answer.{Answer, refused}
 use Rattle.heap.specs.Capacity.{cap}
 use Rattle.state.specs.declared.Waiting.TheVariants.{No}
-use Rattle.state.specs.declared.First.{First}
 use Rattle.state.specs.declared.Timer.{Timer}
 use Rattle.state.specs.declared.Set.{Set}
 use Rattle.state.specs.State.{no_timer}
@@ -106,7 +107,7 @@ module _ (u : ℕ) where
 -- FULL, where place 0 is not free
 
 -- with this timer at place 0 and this head of the list
-abbrev pub crowd : Timer → First → Set
+abbrev pub crowd : Timer → Code.Option Place → Set
 crowd t f = record { heap = heap_of bare; timers = behind t; first = f; closed = false }
 
 -- then no place is free
@@ -116,7 +117,7 @@ behind_taken t e (suc i) l =
     let a = numbered_at (λ i. live No no_slot) (cap - 1) 1 i (omega arith) in
     ap (λ (x : Timer). not (is_free x.life)) (in_element no_timer lives i (live No no_slot) a).1
 
-module _ (t : Timer) (f : First) (e : is_free t.life ≡ false) where
+module _ (t : Timer) (f : Code.Option Place) (e : is_free t.life ≡ false) where
   none_lowest : lowest_free (crowd t f) ≡ none
   unfolding lowest_free taken
   none_lowest =
