@@ -26,41 +26,45 @@ pub fresh_begins : (r : Set) → State.Fresh r → r ≡ ours.fresh
 fresh_begins r p = p
 
 module _ (s : Set) (r : After) (m : List ℕ) where
+  -- the engine hands on what the call promises
+  handed_on : {o : Outcome Set Value} → told r ≡ o → alone r m ≡ handed (with_list m o)
+  handed_on p = ap (λ (o : Outcome Set Value). handed (with_list m o)) p
+
   pub add_steps : (d : ℕ) → Timers.Adds s d r → alone r m ≡ ours.step s (C.Add d) m
   unfolding step
-  add_steps d p = ap (λ (o : Outcome Set Value). handed (with_list m o)) p
+  add_steps d p = handed_on p
 
   pub reset_steps : (h : Handle) (d : ℕ) → Timers.Resets s h d r → alone r m ≡ ours.step s (C.Reset h d) m
   unfolding step
-  reset_steps h d p = ap (λ (o : Outcome Set Value). handed (with_list m o)) p
+  reset_steps h d p = handed_on p
 
   pub cancel_steps : (h : Handle) → Timers.Cancels s h r → alone r m ≡ ours.step s (C.Cancel h) m
   unfolding step
-  cancel_steps h p = ap (λ (o : Outcome Set Value). handed (with_list m o)) p
+  cancel_steps h p = handed_on p
 
   pub drain_steps : Timers.Drains s r → alone r m ≡ ours.step s C.Drain m
   unfolding step
-  drain_steps p = ap (λ (o : Outcome Set Value). handed (with_list m o)) p
+  drain_steps p = handed_on p
 
   pub next_wake_steps : Timers.Wakes s r → alone r m ≡ ours.step s C.NextWake m
   unfolding step
-  next_wake_steps p = ap (λ (o : Outcome Set Value). handed (with_list m o)) p
+  next_wake_steps p = handed_on p
 
   pub poll_steps : (h : Handle) → Timers.Polls s h r → alone r m ≡ ours.step s (C.Poll h) m
   unfolding step
-  poll_steps h p = ap (λ (o : Outcome Set Value). handed (with_list m o)) p
+  poll_steps h p = handed_on p
 
   pub close_steps : Timers.Closes s r → alone r m ≡ ours.step s C.Close m
   unfolding step
-  close_steps p = ap (λ (o : Outcome Set Value). handed (with_list m o)) p
+  close_steps p = handed_on p
 
   pub tick_steps : (h : Handle) (p : Policy) (period N : ℕ) → Timers.Ticks s h p period N r → alone r m ≡ ours.step s (C.Tick h p period N) m
   unfolding step
-  tick_steps h p period N q = ap (λ (o : Outcome Set Value). handed (with_list m o)) q
+  tick_steps h p period N q = handed_on q
 
   pub restart_steps : (h : Handle) (period N : ℕ) → Timers.Restarts s h period N r → alone r m ≡ ours.step s (C.Restart h period N) m
   unfolding step
-  restart_steps h period N q = ap (λ (o : Outcome Set Value). handed (with_list m o)) q
+  restart_steps h period N q = handed_on q
 
   -- an advance and a turn that are lent the list l and leave it as m
   pub advance_steps : (N : ℕ) (l : List ℕ) → Timers.Advances s N l r m → handed (told_with r m) ≡ ours.step s (C.Advance N) l

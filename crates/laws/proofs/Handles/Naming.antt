@@ -36,14 +36,15 @@ pub names_other : (t : Timer) (u : ℕ) → (t.uses ≡ u → ⊥) → names t u
 unfolding names
 names_other t u n = rw (ne_eqb t.uses u n)
 
+-- nothing under a test is nothing
+none_by : (b : Bool) (x : Option Timing) → x ≡ none → cond b x none ≡ none
+none_by true x e = e
+none_by false x e = refl
+
 -- a timer that is not live is nothing to any handle
 pub names_dead : (t : Timer) (u : ℕ) → timing_of t.life ≡ none → names t u ≡ none
 unfolding names
-names_dead t u e = go (eqb t.uses u) (timing_of t.life) e
-  where
-    go : (b : Bool) (x : Option Timing) → x ≡ none → cond b x none ≡ none
-    go true x e = e
-    go false x e = refl
+names_dead t u e = none_by (eqb t.uses u) (timing_of t.life) e
 
 -- what a handle names, by the timer at its place
 pub live_by : (s : Set) (h : Handle) → live_at s h ≡ cond (ltb h.place.0 cap) (names (timer_at s h.place.0) h.uses) none
@@ -60,11 +61,7 @@ live_in_range s h b = live_by s h ∙ ap (λ (c : Bool). cond c (names (timer_at
 
 -- a handle names nothing where the timer at its place is nothing to it
 pub live_none : (s : Set) (h : Handle) → names (timer_at s h.place.0) h.uses ≡ none → live_at s h ≡ none
-live_none s h e = live_by s h ∙ go (ltb h.place.0 cap) (names (timer_at s h.place.0) h.uses) e
-  where
-    go : (b : Bool) (x : Option Timing) → x ≡ none → cond b x none ≡ none
-    go true x e = e
-    go false x e = refl
+live_none s h e = live_by s h ∙ none_by (ltb h.place.0 cap) (names (timer_at s h.place.0) h.uses) e
 
 -- what relates what two timers are to a handle relates what it names in their sets
 pub live_rel : (R : Option Timing → Option Timing → Type 0) → R none none → (s r : Set) (h : Handle)

@@ -8,12 +8,13 @@ use mathlib.Core.List.{List, ◌∷◌}
 use Prim.Native.Nat.{ℕ, suc, ◌<◌}
 use lib.Dec.{ltb}
 use lib.ListN.{length}
-use borrow.Author.Tests.{lt-ltb}
+use borrow.Author.Tests.{ltb-true, lt-ltb}
 use Rattle.std.specs.Prelude as Code
 use Rattle.std.specs.Prelude.{Some, None}
 use Rattle.theory.specs.Counting.{count}
 use Rattle.theory.specs.Chain.{chain_okb, chain_of}
-use Rattle.theory.proofs.Counting.{count_off}
+use Rattle.theory.proofs.Tests.{and_left}
+use Rattle.theory.proofs.Counting.{count_off, count_zero}
 use Rattle.theory.proofs.ChainTest.{ok_head}
 use Rattle.theory.proofs.ChainChange.{chain_same, push_ok, pop_ok}
 use Rattle.theory.proofs.Stores.{sees, sees_other}
@@ -54,9 +55,24 @@ pub waits_in : (s : Set) (p : ℕ) → p < cap → waits_at s p ≡ is_waiting (
 unfolding waits_at
 waits_in s p b = rw (lt-ltb p cap b)
 
+-- a place that waits is in range
+pub waits_below : (s : Set) (p : ℕ) → waits_at s p ≡ true → p < cap
+unfolding waits_at
+waits_below s p e = ltb-true p cap (and_left (ltb p cap) (is_waiting (timer_at s p).waiting) e)
+
 -- the head of the list is in range, and waits
 pub first_waits : (s : Set) (p : Place) → Listed s → s.first ≡ Some p → waits_at s p.0 ≡ true
 first_waits s p l e = ok_head (waits_at s) (after_at s) cap p.0 (ap (λ (f : Code.Option Place). chain_okb (waits_at s) (after_at s) cap (head_of f)) (sym e) ∙ l)
+
+-- the list is empty where no timer waits
+pub list_empty : (s : Set) → Listed s → count (waits_at s) cap ≡ 0 → s.first ≡ None
+list_empty s l e = go s.first refl
+  where
+    go : (f : Code.Option Place) → s.first ≡ f → s.first ≡ None
+    go None q = q
+    go (Some p) q =
+        let w = first_waits s p l q in
+        absurd (count_zero (waits_at s) cap e p.0 (waits_below s p.0 w) w)
 
 module _ (s : Set) (h : Heap) (p : ℕ) (t : Timer) (f : Code.Option Place) where
   waits_other : (y : ℕ) → (y ≡ p → ⊥) → waits_at s y ≡ waits_at (changed s h p t f) y

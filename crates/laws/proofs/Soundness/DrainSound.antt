@@ -23,24 +23,14 @@ use Rattle.moves.specs.Rules.{settled_of, list_turn, drain_from, drained_of}
 use Rattle.laws.specs.Words.{Words}
 use Rattle.laws.proofs.PlaceByPlace.Words.{settled_words}
 use Rattle.laws.proofs.Parts.OpenSet.{Open, sound_open, open_sound}
-use Rattle.laws.proofs.Parts.ListChange.{waits_in, first_waits}
-use Rattle.laws.proofs.Soundness.Settle.{waits_below, settled_settles}
+use Rattle.laws.proofs.Parts.ListChange.{waits_in, list_empty}
+use Rattle.laws.proofs.Soundness.Settle.{settled_settles}
 
 -- an open set in which no timer waits
 pub record Drained (s : Set) : Type 0 where
   pub is_open : Open s
   pub first_none : s.first ≡ None
   pub none_waits : count (waits_at s) cap ≡ 0
-
--- the list is empty where no timer waits
-empty_first : (s : Set) → Open s → count (waits_at s) cap ≡ 0 → s.first ≡ None
-empty_first s o e = go s.first refl
-  where
-    go : (f : Option Place) → s.first ≡ f → s.first ≡ None
-    go None q = q
-    go (Some p) q =
-        let w = first_waits s p o.listed q in
-        absurd (count_zero (waits_at s) cap e p.0 (waits_below s p.0 w) w)
 
 -- no timer waits where the list is empty
 pub empty_none : (s : Set) → Open s → s.first ≡ None → count (waits_at s) cap ≡ 0
@@ -51,7 +41,7 @@ drain_drained : (k : ℕ) (s : Set) → Open s → Words s → count (waits_at s
 unfolding drain_from
 drain_drained zero s o w l =
     let e : count (waits_at s) cap ≡ 0 = omega arith in
-    record { is_open = o; first_none = empty_first s o e; none_waits = e }
+    record { is_open = o; first_none = list_empty s o.listed e; none_waits = e }
 drain_drained (suc k) s o w l = go s.first refl (λ r t v b. drain_drained k r t v b)
   where
     go : (f : Option Place) → s.first ≡ f → ((r : Set) → Open r → Words r → count (waits_at r) cap ≤ k → Drained (drain_from k r))

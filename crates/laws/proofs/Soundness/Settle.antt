@@ -7,14 +7,12 @@ use mathlib.Core.List.{◌∷◌}
 use Prim.Native.Nat.{ℕ, suc, ◌<◌, ◌^◌}
 use native.Mathlib.Decide.{ℕ_discrete}
 use native.Mathlib.Omega.{arith}
-use lib.Dec.{ltb}
-use borrow.Author.Tests.{ltb-true}
 use Rattle.std.specs.Prelude.{Option, Some, None}
 use Rattle.heap.specs.declared.Slot.{Slot}
 use Rattle.theory.specs.Counting.{count}
 use Rattle.theory.specs.Update.{upd}
 use Rattle.theory.proofs.Update.{upd_same, upd_other}
-use Rattle.theory.proofs.Tests.{true_false, and_left}
+use Rattle.theory.proofs.Tests.{true_false}
 use Rattle.heap.specs.Capacity.{cap}
 use Rattle.heap.specs.declared.Heap.{Heap}
 use Rattle.heap.specs.Calls.{push_sound}
@@ -35,7 +33,7 @@ use Rattle.laws.proofs.Parts.Lives.{Lives, lives_live}
 use Rattle.laws.proofs.Parts.Freed.{freed_held, freed_waiting, freed_lives}
 use Rattle.laws.proofs.Parts.Change.{held_at, changed, held_there, timer_here}
 use Rattle.laws.proofs.Parts.OpenSet.{Open, open_changed}
-use Rattle.laws.proofs.Parts.ListChange.{list_of, waits_in, first_waits, list_popped, list_pop, waits_fall}
+use Rattle.laws.proofs.Parts.ListChange.{list_of, waits_in, waits_below, first_waits, list_popped, list_pop, waits_fall}
 
 -- what one turn with the timer at p makes of s
 pub record Settles (s : Set) (p : ℕ) (r : Set) : Type 0 where
@@ -44,11 +42,6 @@ pub record Settles (s : Set) (p : ℕ) (r : Set) : Type 0 where
   pub tail : list_of s ≡ p ∷ list_of r
   -- one timer less waits
   pub fewer : count (waits_at s) cap ≡ suc (count (waits_at r) cap)
-
--- a place that waits is in range
-pub waits_below : (s : Set) (p : ℕ) → waits_at s p ≡ true → p < cap
-unfolding waits_at
-waits_below s p e = ltb-true p cap (and_left (ltb p cap) (is_waiting (timer_at s p).waiting) e)
 
 -- an unused place does not wait
 unused_waits : {A : Type 0} {t : Timer} → Unused t → is_waiting t.waiting ≡ true → A
