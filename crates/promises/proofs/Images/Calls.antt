@@ -30,7 +30,7 @@ use Rattle.laws.proofs.Reporting.AnyList.{SameTurn, turn_any_list}
 use Rattle.laws.proofs.Widths.Calls.{widths_words}
 use Rattle.laws.proofs.Widths.TurnList.{Lists, turn_list}
 use Rattle.host.specs.Numbers.{or_nobody, handle_from, list_in, reported_in, word_bytes}
-use Rattle.host.specs.Calls.{image_after, pictured, Board, reporting, add_on, reset_on, cancel_on, turn_on, next_wake_on}
+use Rattle.host.specs.Calls.{on_image, image_after, pictured, Board, reporting, add_on, reset_on, cancel_on, turn_on, next_wake_on}
 use Rattle.host.specs.Seen.{count_or}
 use Rattle.promises.specs.Images.{bytes_for, words_in, list_after}
 use Rattle.promises.proofs.Images.Reading.{on_image_lem}
@@ -97,23 +97,23 @@ module _ (s : Set) (ok : Sound s) (w : Widths s) where
     word_read : handle_from (handle_word h) ≡ h
     word_read = ap or_nobody (named_word h b)
 
+    -- a call on a handle is that on the handle which the word names
+    handle_pictures : (f : Set → Handle → Outcome Set Value) → Pictures (pictured (image_of s) (f (cleared s) h)) (f s h).state (f s h).answer
+        → Pictures (on_image (image_of s) (image_of s) (λ x. pictured (image_of s) (f x (handle_from (handle_word h))))) (f s h).state (f s h).answer
+    handle_pictures f =
+        subst (λ (x : Outcome (List ℕ) Value). Pictures x (f s h).state (f s h).answer)
+        (sym (on_image_lem s ok w (image_of s) (λ x. pictured (image_of s) (f x (handle_from (handle_word h))))
+        ∙ ap (λ (j : Handle). pictured (image_of s) (f (cleared s) j)) word_read))
+
     pub reset_pictures : (d : ℕ) (l : List ℕ)
         → Pictures (reset_on (image_of s) (handle_word h) d) (step s (C.Reset h d) l).state.set (step s (C.Reset h d) l).answer
     unfolding reset_on step
-    reset_pictures d l =
-        subst (λ (x : Outcome (List ℕ) Value). Pictures x (reset_of s h d).state (reset_of s h d).answer)
-        (sym (on_image_lem s ok w (image_of s) (λ x. pictured (image_of s) (reset_of x (handle_from (handle_word h)) d))
-        ∙ ap (λ (j : Handle). pictured (image_of s) (reset_of (cleared s) j d)) word_read))
-        (pictures (C.Reset h d) l)
+    reset_pictures d l = handle_pictures (λ x j. reset_of x j d) (pictures (C.Reset h d) l)
 
     pub cancel_pictures : (l : List ℕ)
         → Pictures (cancel_on (image_of s) (handle_word h)) (step s (C.Cancel h) l).state.set (step s (C.Cancel h) l).answer
     unfolding cancel_on step
-    cancel_pictures l =
-        subst (λ (x : Outcome (List ℕ) Value). Pictures x (cancel_of s h).state (cancel_of s h).answer)
-        (sym (on_image_lem s ok w (image_of s) (λ x. pictured (image_of s) (cancel_of x (handle_from (handle_word h))))
-        ∙ ap (λ (j : Handle). pictured (image_of s) (cancel_of (cleared s) j)) word_read))
-        (pictures (C.Cancel h) l)
+    cancel_pictures l = handle_pictures cancel_of (pictures (C.Cancel h) l)
 
   -- a next wake, which writes nothing
   pub wake_answers : (l : List ℕ) → next_wake_on (image_of s) ≡ (step s C.NextWake l).answer

@@ -19,7 +19,7 @@ use Rattle.state.specs.declared.Set.{Set}
 use Rattle.state.specs.Faults.{fault_of}
 use Rattle.state.proofs.Handles.{place_ranged, named_word}
 use Rattle.moves.specs.Rules.{lowest_free, drained_of, advanced_of}
-use Rattle.timers.specs.Values.{Value, nothing, handle, counts, wake, polled, time, handle_in}
+use Rattle.timers.specs.Values.{Value, nothing, handle, counts, wake, handle_in}
 use Rattle.timers.specs.Calls.{Timing, judged, guarded, opened, live_at, alive, added_at, add_of, reset_of, cancel_of, lent, rang, roomy, refusing, turn_of, next_wake_of}
 use Rattle.laws.proofs.AnyCall.Found.{lowest_in}
 use Rattle.host.specs.Numbers.{status_of, or_nobody, handle_from}
@@ -35,36 +35,16 @@ Told Q (unsound f) = ⊥
 
 -- the kinds of values
 abbrev pub IsHandle : Value → Type 0
-IsHandle nothing = ⊥
-IsHandle (handle h) = h.place.0 < 2 ^ 16
-IsHandle (counts r p) = ⊥
-IsHandle (wake t) = ⊥
-IsHandle (polled n) = ⊥
-IsHandle (time t) = ⊥
+IsHandle v = (h : Handle) × (v ≡ handle h) × (h.place.0 < 2 ^ 16)
 
 abbrev pub IsNothing : Value → Type 0
-IsNothing nothing = Unit {0}
-IsNothing (handle h) = ⊥
-IsNothing (counts r p) = ⊥
-IsNothing (wake t) = ⊥
-IsNothing (polled n) = ⊥
-IsNothing (time t) = ⊥
+IsNothing v = v ≡ nothing
 
 abbrev pub IsCounts : Value → Type 0
-IsCounts nothing = ⊥
-IsCounts (handle h) = ⊥
-IsCounts (counts r p) = Unit {0}
-IsCounts (wake t) = ⊥
-IsCounts (polled n) = ⊥
-IsCounts (time t) = ⊥
+IsCounts v = (r : ℕ) × (p : ℕ) × (v ≡ counts r p)
 
 abbrev pub IsWake : Value → Type 0
-IsWake nothing = ⊥
-IsWake (handle h) = ⊥
-IsWake (counts r p) = ⊥
-IsWake (wake t) = Unit {0}
-IsWake (polled n) = ⊥
-IsWake (time t) = ⊥
+IsWake v = (t : Option ℕ) × (v ≡ wake t)
 
 -- THE WAY BACK FROM A STATUS
 
@@ -75,46 +55,30 @@ refusal_back n v b =
     let e : refusal_in n ≡ n = omega arith in
     rw (ne_eqb n 0 (λ z. omega arith)) (ap refused e)
 
+-- where the value that is read of the answer is the one that was given
+told_back : (Q : Value → Type 0) (f : Answer Value → Value) → ((v : Value) → Q v → accepted (f (accepted v)) ≡ plain (accepted v))
+    → (a : Answer Value) → Told Q a → by_status (status_of a) (f a) ≡ plain a
+told_back Q f e (accepted v) b = e v b
+told_back Q f e (refused n) b = refusal_back n _ b
+told_back Q f e (unsound x) b = absurd b
+
 pub added_back : (a : Answer Value) → Told IsHandle a → by_status (status_of a) (handle (handle_from (word_or 0 (handle_in a)))) ≡ plain a
-added_back (accepted nothing) b = absurd b
-added_back (accepted (handle h)) b = ap (λ (o : Option Handle). accepted (handle (or_nobody o))) (named_word h b)
-added_back (accepted (counts r p)) b = absurd b
-added_back (accepted (wake t)) b = absurd b
-added_back (accepted (polled n)) b = absurd b
-added_back (accepted (time t)) b = absurd b
-added_back (refused n) b = refusal_back n _ b
-added_back (unsound f) b = absurd b
+added_back =
+    told_back IsHandle (λ a. handle (handle_from (word_or 0 (handle_in a))))
+    (λ v b. rw b.1 (ap (λ (o : Option Handle). accepted (handle (or_nobody o))) (named_word b.0 b.2)))
 
 pub done_back : (a : Answer Value) → Told IsNothing a → by_status (status_of a) nothing ≡ plain a
-done_back (accepted nothing) b = refl
-done_back (accepted (handle h)) b = absurd b
-done_back (accepted (counts r p)) b = absurd b
-done_back (accepted (wake t)) b = absurd b
-done_back (accepted (polled n)) b = absurd b
-done_back (accepted (time t)) b = absurd b
-done_back (refused n) b = refusal_back n _ b
-done_back (unsound f) b = absurd b
+done_back = told_back IsNothing (λ a. nothing) (λ v b. rw b refl)
 
 pub turned_back : (a : Answer Value) → Told IsCounts a → by_status (status_of a) (counts (count_or 0 a) 0) ≡ plain a
-turned_back (accepted nothing) b = absurd b
-turned_back (accepted (handle h)) b = absurd b
-turned_back (accepted (counts r p)) b = refl
-turned_back (accepted (wake t)) b = absurd b
-turned_back (accepted (polled n)) b = absurd b
-turned_back (accepted (time t)) b = absurd b
-turned_back (refused n) b = refusal_back n _ b
-turned_back (unsound f) b = absurd b
+turned_back = told_back IsCounts (λ a. counts (count_or 0 a) 0) (λ v b. rw b.2 refl)
 
 pub woken_back : (a : Answer Value) → Told IsWake a → by_status (status_of a) (wake (wake_of (any_or 0 (wake_in a)) (time_or 0 (wake_in a)))) ≡ plain a
-woken_back (accepted nothing) b = absurd b
-woken_back (accepted (handle h)) b = absurd b
-woken_back (accepted (counts r p)) b = absurd b
-woken_back (accepted (wake none)) b = refl
-woken_back (accepted (wake (some t))) b = refl
-woken_back (accepted (polled n)) b = absurd b
-woken_back (accepted (time t)) b = absurd b
-woken_back (refused n) b = refusal_back n _ b
-woken_back (unsound f) b = absurd b
+woken_back = told_back IsWake (λ a. wake (wake_of (any_or 0 (wake_in a)) (time_or 0 (wake_in a)))) (λ v b. rw b.1 (go b.0))
+  where
+    go : (t : Option ℕ) → ◌≡◌ {A = Answer Value} (accepted (wake (wake_of (any_or 0 (some t)) (time_or 0 (some t))))) (accepted (wake t))
+    go none = refl
+    go (some t) = refl
 
 -- THE CALLS
 
@@ -144,24 +108,24 @@ module _ (s : Set) (fine : fault_of s ≡ none) where
     where
       go : (x : Option ℕ) → lowest_free s ≡ x → Told IsHandle (added_at s d x).answer
       go none e = (omega arith, omega arith)
-      go (some p) e = place_ranged p (lowest_in s p e)
+      go (some p) e = (_, refl, place_ranged p (lowest_in s p e))
 
   pub reset_told : (h : Handle) (d : ℕ) → Told IsNothing (reset_of s h d).answer
   unfolding reset_of
-  reset_told h d = open_told IsNothing s _ (alive_told IsNothing h _ (λ t. tt))
+  reset_told h d = open_told IsNothing s _ (alive_told IsNothing h _ (λ t. refl))
 
   pub cancel_told : (h : Handle) → Told IsNothing (cancel_of s h).answer
   unfolding cancel_of
-  cancel_told h = open_told IsNothing s _ (alive_told IsNothing h _ (λ t. tt))
+  cancel_told h = open_told IsNothing s _ (alive_told IsNothing h _ (λ t. refl))
 
   pub turn_told : (N : ℕ) (l : List ℕ) → Told IsCounts (turn_of s N l).answer
   unfolding turn_of
   turn_told N l = open_told IsCounts (lent s l) (roomy s l (rang (advanced_of (drained_of s) N l))) (go (leb cap (length l)))
     where
       go : (b : Bool) → Told IsCounts (cond b (rang (advanced_of (drained_of s) N l)) (refusing (lent s l) ShortList)).answer
-      go true = tt
+      go true = (_, _, refl)
       go false = (omega arith, omega arith)
 
   pub wake_told : Told IsWake (next_wake_of s).answer
   unfolding next_wake_of
-  wake_told = guarded_told IsWake s _ tt
+  wake_told = guarded_told IsWake s _ (_, refl)
