@@ -10,7 +10,8 @@ use Rattle.state.specs.declared.Set.{Set}
 use Rattle.state.specs.declared.Handle.{Handle}
 use Rattle.timers.specs.declared.Call.{Call}
 use Rattle.timers.specs.declared.Call.TheVariants as C
-use Rattle.timers.specs.Calls.{Value, handle, time, Timing, live_at, step}
+use Rattle.timers.specs.declared.Timing.{Timing}
+use Rattle.timers.specs.Calls.{Value, handle, time, live_at, step}
 
 -- the word stays
 abbrev pub Same : ℕ → ℕ → Type 0

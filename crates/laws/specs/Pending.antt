@@ -6,7 +6,8 @@ use Rattle.std.proofs.Math.Option.{some}
 use Rattle.refusals.specs.Answer.{accepted}
 use Rattle.state.specs.declared.Set.{Set}
 use Rattle.state.specs.declared.Handle.{Handle}
-use Rattle.timers.specs.Calls.{polled, Timing, live_at, poll_of}
+use Rattle.timers.specs.declared.Timing.{Timing}
+use Rattle.timers.specs.Calls.{polled, live_at, poll_of}
 
 -- a poll of the handle answers 0, pending
 abbrev pub Pending : Set → Handle → Type 0

@@ -7,7 +7,8 @@ use Rattle.state.specs.declared.Set.{Set}
 use Rattle.state.specs.declared.Handle.{Handle}
 use Rattle.state.specs.Handles.{handle_word}
 use Rattle.timers.specs.declared.Call.{Call}
-use Rattle.timers.specs.Calls.{counts, Timing, live_at, step}
+use Rattle.timers.specs.declared.Timing.{Timing}
+use Rattle.timers.specs.Calls.{counts, live_at, step}
 
 -- a call reports a word: it answers counts, and the word stands in the list as the call leaves it, before the count of the reports
 pub record Reports (s : Set) (c : Call) (l : List ℕ) (word : ℕ) : Type 0 where

@@ -23,7 +23,8 @@ use Rattle.state.specs.declared.Handle.{Handle}
 use Rattle.state.specs.Faults.{fault_of, sound_of}
 use Rattle.moves.specs.Rules.{touched_of, lowest_free, drained_of, advanced_of, closed_of}
 use Rattle.timers.specs.Calls as Calls
-use Rattle.timers.specs.Calls.{Value, Lent, Timing, judged, gives, refusing, guarded, opened, live_at, alive, added_at, reset_to, lent, rang, roomy, ticked_by, restarted_by}
+use Rattle.timers.specs.declared.Timing.{Timing}
+use Rattle.timers.specs.Calls.{Value, Lent, judged, gives, refusing, guarded, opened, live_at, alive, added_at, reset_to, lent, rang, roomy, ticked_by, restarted_by}
 use Rattle.laws.proofs.Handles.ByHandle.{handle_at}
 
 -- both tests have let a call through

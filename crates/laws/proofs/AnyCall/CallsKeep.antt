@@ -15,7 +15,8 @@ use Rattle.state.specs.declared.Handle.{Handle}
 use Rattle.timers.specs.declared.Call.{Call}
 use Rattle.timers.specs.declared.Call.TheVariants as C
 use Rattle.moves.specs.Rules.{touched_of, lowest_free, drained_of, advanced_of, closed_of}
-use Rattle.timers.specs.Calls.{Value, Lent, Timing, live_at, reset_to, step}
+use Rattle.timers.specs.declared.Timing.{Timing}
+use Rattle.timers.specs.Calls.{Value, Lent, live_at, reset_to, step}
 use Rattle.laws.specs.Widths.{Given, IsTime}
 use Rattle.laws.proofs.AnyCall.CallCases.{add_by, reset_by, cancel_by, drain_by, advance_by, turn_by, wake_by_lem, poll_by_lem, close_by, tick_by, restart_by}
 

@@ -18,7 +18,8 @@ use Rattle.state.specs.declared.Set.{Set}
 use Rattle.state.specs.declared.Handle.{Handle}
 use Rattle.state.specs.State.{timer_at}
 use Rattle.moves.specs.Rules.{is_free, taken, lowest_free}
-use Rattle.timers.specs.Calls.{Timing, timing_of, live_at}
+use Rattle.timers.specs.declared.Timing.{Timing}
+use Rattle.timers.specs.Calls.{timing_of, live_at}
 
 -- a reset clears the invalid mark
 pub reset_unmarked : (w : ℕ) → Word.invalid_in (Word.reset_of w) ≡ false

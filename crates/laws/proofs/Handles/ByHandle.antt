@@ -17,7 +17,8 @@ use Rattle.state.specs.declared.Set.{Set}
 use Rattle.state.specs.declared.Handle.{Handle}
 use Rattle.state.specs.State.{no_timer, timer_at}
 use Rattle.moves.specs.Rules.{touched_of, lowest_free, freed_of, drained_of, advanced_of, closed_of}
-use Rattle.timers.specs.Calls.{Timing, timing_of, live_at}
+use Rattle.timers.specs.declared.Timing.{Timing}
+use Rattle.timers.specs.Calls.{timing_of, live_at}
 use Rattle.laws.specs.ByHandle.{Fires, Marks, Still}
 use Rattle.laws.proofs.Handles.Naming.{names, names_same, names_other, names_dead, live_in_range, live_none, live_rel, live_told, store_rel}
 use Rattle.laws.proofs.AnyCall.Found.{lowest_in, lowest_free_lem}

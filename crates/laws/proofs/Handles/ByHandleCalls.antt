@@ -14,7 +14,8 @@ use Rattle.state.specs.declared.Life.TheVariants.{Live, Cancelled}
 use Rattle.state.specs.declared.Set.{Set}
 use Rattle.state.specs.declared.Handle.{Handle}
 use Rattle.moves.specs.Rules.{touched_of, drained_of, advanced_of}
-use Rattle.timers.specs.Calls.{Value, handle, Timing, live_at, reset_to, add_of, reset_of, cancel_of, drain_of, advance_of, turn_of, next_wake_of, poll_of, close_of, tick_at, restart_at}
+use Rattle.timers.specs.declared.Timing.{Timing}
+use Rattle.timers.specs.Calls.{Value, handle, live_at, reset_to, add_of, reset_of, cancel_of, drain_of, advance_of, turn_of, next_wake_of, poll_of, close_of, tick_at, restart_at}
 use Rattle.refusals.proofs.Refusing.{never}
 use Rattle.laws.specs.ByHandle.{Fires, Marks, Still, ResetTo, TickedTo}
 use Rattle.laws.proofs.Handles.Still.{still_same, fires_changes, marks_changes}

@@ -19,7 +19,8 @@ use Rattle.state.specs.declared.Timer.{Timer}
 use Rattle.state.specs.declared.Set.{Set}
 use Rattle.state.specs.declared.Handle.{Handle}
 use Rattle.state.specs.State.{no_timer, timer_at}
-use Rattle.timers.specs.Calls.{Timing, timing_of, live_at}
+use Rattle.timers.specs.declared.Timing.{Timing}
+use Rattle.timers.specs.Calls.{timing_of, live_at}
 use Rattle.laws.proofs.AnyCall.Found.{live_in}
 
 -- what a timer is to a handle of its place with the use number u

@@ -17,7 +17,8 @@ use Rattle.state.specs.declared.Set.{Set}
 use Rattle.state.specs.declared.Handle.{Handle}
 use Rattle.state.specs.State.{timer_at}
 use Rattle.moves.specs.Rules.{is_free, touched_of, lowest_free, freed_of, drained_of, rung_life, rung_timer, advanced_of, marked_life, closed_of}
-use Rattle.timers.specs.Calls.{Timing, live_at}
+use Rattle.timers.specs.declared.Timing.{Timing}
+use Rattle.timers.specs.Calls.{live_at}
 use Rattle.laws.specs.Past.{is_over, is_taken, Reached}
 use Rattle.laws.proofs.AnyCall.Found.{lowest_free_lem}
 use Rattle.laws.proofs.Handles.Naming.{live_told}

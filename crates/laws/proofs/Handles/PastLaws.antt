@@ -16,7 +16,8 @@ use Rattle.state.specs.declared.Set.{Set}
 use Rattle.state.specs.declared.Handle.{Handle}
 use Rattle.state.specs.State.{timer_at}
 use Rattle.moves.specs.Rules.{touched_of, lowest_free}
-use Rattle.timers.specs.Calls.{Timing, timing_of, live_at}
+use Rattle.timers.specs.declared.Timing.{Timing}
+use Rattle.timers.specs.Calls.{timing_of, live_at}
 use Rattle.laws.specs.Past.{is_over, is_taken, Given, Past}
 use Rattle.laws.proofs.AnyCall.Found.{lowest_free_lem}
 use Rattle.laws.proofs.Handles.Naming.{names_same, names_other, live_in_range, live_none, live_told}

@@ -27,7 +27,8 @@ use Rattle.state.specs.State.{timer_at}
 use Rattle.state.specs.Faults.{fault_of, sound_of}
 use Rattle.state.specs.Named.{Goes}
 use Rattle.state.proofs.Parts.{places_fine}
-use Rattle.timers.specs.Calls.{judged, refusing, polled, Timing, timing_of, live_at, alive, living, guarded, door_of, poll_by, poll_of, gives}
+use Rattle.timers.specs.declared.Timing.{Timing}
+use Rattle.timers.specs.Calls.{judged, refusing, polled, timing_of, live_at, alive, living, guarded, door_of, poll_by, poll_of, gives}
 use Rattle.timers.specs.Left.{left_at, time_left_by, time_left_of, pending_in, pending_at, or_none, least_by, least_left_of, soonest_of}
 use Rattle.timers.proofs.Guarding.{sound_none}
 use Rattle.timers.proofs.Shortest.{least_open}

@@ -18,7 +18,8 @@ use Rattle.state.specs.declared.Life.TheVariants.{Free, Live, Cancelled, Retired
 use Rattle.state.specs.declared.Waiting.{Waiting}
 use Rattle.state.specs.declared.Timer.{Timer}
 use Rattle.moves.specs.Rules.{rung_word, rung_life, rung_timer, marked_life}
-use Rattle.timers.specs.Calls.{Timing, timing_of}
+use Rattle.timers.specs.declared.Timing.{Timing}
+use Rattle.timers.specs.Calls.{timing_of}
 use Rattle.laws.specs.ByHandle.{Same, Fires, Marks, Still}
 use Rattle.laws.proofs.Handles.Naming.{names}
 use Rattle.laws.proofs.PlaceByPlace.Places.{Order}

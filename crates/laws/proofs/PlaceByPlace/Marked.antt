@@ -19,7 +19,8 @@ use Rattle.state.specs.declared.Handle.{Handle}
 use Rattle.state.specs.State.{timer_at, is_waiting}
 use Rattle.state.specs.Sound.{Sound}
 use Rattle.moves.specs.Rules.{marked_life, closed_of}
-use Rattle.timers.specs.Calls.{Timing, timing_of, live_at}
+use Rattle.timers.specs.declared.Timing.{Timing}
+use Rattle.timers.specs.Calls.{timing_of, live_at}
 use Rattle.laws.specs.EntryOf.{held_entry, entry_of, waiting}
 use Rattle.laws.proofs.Handles.Naming.{names_same, live_in_range, live_told}
 use Rattle.laws.proofs.PlaceByPlace.Places.{Steps, Each, closed_steps}

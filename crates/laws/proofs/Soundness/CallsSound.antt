@@ -13,7 +13,8 @@ use Rattle.state.specs.declared.Handle.{Handle}
 use Rattle.state.specs.Sound.{Sound}
 use Rattle.timers.specs.declared.Call.{Call}
 use Rattle.moves.specs.Rules.{touched_of, lowest_free, drained_of}
-use Rattle.timers.specs.Calls.{Timing, live_at, reset_to, step}
+use Rattle.timers.specs.declared.Timing.{Timing}
+use Rattle.timers.specs.Calls.{live_at, reset_to, step}
 use Rattle.laws.specs.Words.{Words}
 use Rattle.laws.proofs.PlaceByPlace.Words.{live_small, other_small, touched_words, drained_words}
 use Rattle.laws.proofs.PlaceByPlace.WordsKept.{advanced_words_kept, closed_words}

@@ -26,7 +26,8 @@ use Rattle.state.proofs.InUse.{heap_twins, by_heap}
 use Rattle.timers.specs.declared.Call.{Call}
 use Rattle.timers.specs.declared.Call.TheVariants as C
 use Rattle.moves.specs.Rules.{taken, lowest_free, Ring}
-use Rattle.timers.specs.Calls.{Value, nothing, handle, counts, wake, polled, time, Timing, gives, added_at, add_of, reset_to, reset_of, cancel_of, drain_of, rang, roomy, advance_of, turn_of, wake_by, next_wake_of, poll_by, poll_of, close_of, ticked_by, tick_at, restarted_by, restart_at, with_list, step}
+use Rattle.timers.specs.declared.Timing.{Timing}
+use Rattle.timers.specs.Calls.{Value, nothing, handle, counts, wake, polled, time, gives, added_at, add_of, reset_to, reset_of, cancel_of, drain_of, rang, roomy, advance_of, turn_of, wake_by, next_wake_of, poll_by, poll_of, close_of, ticked_by, tick_at, restarted_by, restart_at, with_list, step}
 use Rattle.laws.specs.InUse.{SameOutcome, SameLent}
 use Rattle.laws.proofs.UnusedRoom.InUseDrain.{Alike, touched_alike, drain_alike}
 use Rattle.laws.proofs.UnusedRoom.InUseRings.{SameRing, advanced_same, closed_alike}

@@ -16,7 +16,8 @@ use Rattle.state.specs.InUse.{Twins}
 use Rattle.state.proofs.PlaceTest.{ref_self}
 use Rattle.state.proofs.Parts.{ref_passed}
 use Rattle.state.proofs.InUse.{by_heap, fault_in_use}
-use Rattle.timers.specs.Calls.{Value, Timing, judged, refusing, gives, guarded, opened, live_at, alive}
+use Rattle.timers.specs.declared.Timing.{Timing}
+use Rattle.timers.specs.Calls.{Value, judged, refusing, gives, guarded, opened, live_at, alive}
 use Rattle.laws.specs.InUse.{SameOutcome}
 use Rattle.laws.proofs.UnusedRoom.InUseDrain.{Alike}
 

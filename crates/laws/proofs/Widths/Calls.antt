@@ -19,7 +19,8 @@ use Rattle.state.specs.Widths.{LifeWidths, TimerWidths, Widths}
 use Rattle.state.proofs.Widths.{unused_widths}
 use Rattle.timers.specs.declared.Call.{Call}
 use Rattle.moves.specs.Rules.{drained_of}
-use Rattle.timers.specs.Calls.{Timing, live_at, step}
+use Rattle.timers.specs.declared.Timing.{Timing}
+use Rattle.timers.specs.Calls.{live_at, step}
 use Rattle.laws.specs.Words.{Words}
 use Rattle.laws.specs.Widths.{Given, IsTime}
 use Rattle.laws.proofs.AnyCall.Found.{reset_small, live_in}
