@@ -33,7 +33,8 @@ use Rattle.state.specs.Faults.{fault_of, sound_of}
 use Rattle.state.proofs.Test.{sound_tells}
 use Rattle.timers.specs.declared.Call.{Call}
 use Rattle.timers.specs.declared.Call.TheVariants as C
-use Rattle.timers.specs.Calls.{judged, Timing, live_at, living, door_of}
+use Rattle.timers.specs.declared.Timing.{Timing}
+use Rattle.timers.specs.Calls.{judged, live_at, living, door_of}
 use Rattle.timers.specs.Left.{left_at, time_left_by, time_left_of, pending_at, or_none, least_by, least_left_of, soonest_of}
 use Rattle.timers.proofs.Guarding.{sound_none}
 use Rattle.timers.proofs.Shortest.{least_open}

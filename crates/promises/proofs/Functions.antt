@@ -4,6 +4,7 @@
 use mathlib.Core.Path.{◌≡◌, ap}
 use mathlib.Core.List.{List}
 use Prim.Native.Nat.{ℕ}
+use Rattle.refusals.specs.declared.outcome.Outcome as Code
 use Rattle.refusals.specs.Answer.{Outcome}
 use Rattle.interval.specs.declared.Policy.{Policy}
 use Rattle.state.specs.declared.Set.{Set}
@@ -11,21 +12,21 @@ use Rattle.state.specs.declared.Handle.{Handle}
 use Rattle.state.specs.Promises as State
 use Rattle.timers.specs.declared.Call.{Call}
 use Rattle.timers.specs.declared.Call.TheVariants as C
-use Rattle.timers.specs.declared.After.{After}
+use Rattle.timers.specs.declared.Reply.{Reply}
 use Rattle.timers.specs.Values.{Value}
 use Rattle.timers.specs.Calls.{told, told_with, with_list, step}
 use Rattle.timers.specs.Promises as Timers
 use Rattle.promises.specs.Engine.{handed, ours}
 
 -- what a call without a list answers, as the engine has it
-abbrev pub alone : After → List ℕ → Outcome (Set × List ℕ) Value
+abbrev pub alone : Code.Outcome Set Reply → List ℕ → Outcome (Set × List ℕ) Value
 alone r m = handed (with_list m (told r))
 
 -- `state::fresh`
 pub fresh_begins : (r : Set) → State.Fresh r → r ≡ ours.fresh
 fresh_begins r p = p
 
-module _ (s : Set) (r : After) (m : List ℕ) where
+module _ (s : Set) (r : Code.Outcome Set Reply) (m : List ℕ) where
   -- the engine hands on what the call promises
   handed_on : {o : Outcome Set Value} → told r ≡ o → alone r m ≡ handed (with_list m o)
   handed_on p = ap (λ (o : Outcome Set Value). handed (with_list m o)) p

@@ -16,7 +16,8 @@ use Rattle.state.specs.Handles.{handle_discrete}
 use Rattle.timers.specs.declared.Call.{Call}
 use Rattle.timers.specs.declared.Call.TheVariants as C
 use Rattle.timers.specs.Values.{Value, nothing, handle, counts, wake, polled, time, handle_in}
-use Rattle.timers.specs.Calls.{Timing, add_of, step}
+use Rattle.timers.specs.declared.Timing.{Timing}
+use Rattle.timers.specs.Calls.{add_of, step}
 use Rattle.laws.specs.EntryOf.{entry_of, waiting}
 use Rattle.laws.proofs.Handles.ByHandleCalls.{add_lives}
 use Rattle.promises.specs.Turns.{owed, seen, Run, next, from, run, Accepted}

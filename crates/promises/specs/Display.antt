@@ -13,7 +13,8 @@ use Rattle.state.specs.declared.Set.{Set}
 use Rattle.state.specs.declared.Handle.{Handle}
 use Rattle.state.specs.Handles.{handle_discrete}
 use Rattle.timers.specs.declared.Call.TheVariants as C
-use Rattle.timers.specs.Calls.{Timing, live_at}
+use Rattle.timers.specs.declared.Timing.{Timing}
+use Rattle.timers.specs.Calls.{live_at}
 use Rattle.timers.specs.Left.{time_left_of, or_none, least_left_of}
 use Rattle.promises.specs.Turns.{owed, seen, Least, Run, Accepted}
 use Rattle.promises.specs.Engine.{ours}

@@ -20,7 +20,8 @@ use Rattle.state.specs.Faults.{fault_of}
 use Rattle.state.proofs.Handles.{place_ranged, named_word}
 use Rattle.moves.specs.Rules.{lowest_free, drained_of, advanced_of}
 use Rattle.timers.specs.Values.{Value, nothing, handle, counts, wake, handle_in}
-use Rattle.timers.specs.Calls.{Timing, judged, guarded, opened, live_at, alive, added_at, add_of, reset_of, cancel_of, lent, rang, roomy, refusing, turn_of, next_wake_of}
+use Rattle.timers.specs.declared.Timing.{Timing}
+use Rattle.timers.specs.Calls.{judged, guarded, opened, live_at, alive, added_at, add_of, reset_of, cancel_of, lent, rang, roomy, refusing, turn_of, next_wake_of}
 use Rattle.laws.proofs.AnyCall.Found.{lowest_in}
 use Rattle.host.specs.Numbers.{status_of, or_nobody, handle_from}
 use Rattle.host.specs.Seen.{word_or, count_or, wake_in, any_or, time_or}

@@ -12,7 +12,8 @@ use Rattle.heap.specs.declared.Entry.{Entry}
 use Rattle.word.specs.Rules.{generation_of, fired_of, reset_of}
 use Rattle.state.specs.declared.Set.{Set}
 use Rattle.state.specs.declared.Handle.{Handle}
-use Rattle.timers.specs.Calls.{Timing, live_at}
+use Rattle.timers.specs.declared.Timing.{Timing}
+use Rattle.timers.specs.Calls.{live_at}
 use Rattle.laws.specs.EntryOf.{entry_of, waiting, Armed}
 use Rattle.promises.specs.Turns.{Line, Ledger, begun, moved, cleared, rung}
 

@@ -14,7 +14,8 @@ use Rattle.state.specs.declared.Set.{Set}
 use Rattle.state.specs.declared.Handle.{Handle}
 use Rattle.state.specs.Sound.{Sound}
 use Rattle.moves.specs.Rules.{closed_of}
-use Rattle.timers.specs.Calls.{Timing, live_at, poll_by}
+use Rattle.timers.specs.declared.Timing.{Timing}
+use Rattle.timers.specs.Calls.{live_at, poll_by}
 use Rattle.laws.specs.ByHandle.{Marks}
 use Rattle.laws.specs.EntryOf.{entry_of, waiting}
 use Rattle.laws.proofs.Handles.ByHandle.{closed_keeps_due}

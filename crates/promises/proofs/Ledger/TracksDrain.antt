@@ -9,7 +9,8 @@ use Rattle.state.specs.declared.Set.{Set}
 use Rattle.state.specs.State.{is_waiting}
 use Rattle.state.specs.Sound.{Sound}
 use Rattle.moves.specs.Rules.{drained_of}
-use Rattle.timers.specs.Calls.{Timing, live_at}
+use Rattle.timers.specs.declared.Timing.{Timing}
+use Rattle.timers.specs.Calls.{live_at}
 use Rattle.laws.specs.Words.{Words}
 use Rattle.laws.specs.EntryOf.{entry_of, waiting}
 use Rattle.laws.proofs.Handles.Naming.{live_told}

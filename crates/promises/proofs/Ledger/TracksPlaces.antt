@@ -23,7 +23,8 @@ use Rattle.state.specs.State.{fresh_of, timer_at}
 use Rattle.state.specs.Handles.{handle_discrete}
 use Rattle.state.specs.Sound.{Sound}
 use Rattle.moves.specs.Rules.{is_free, touched_of, lowest_free, drained_of, advanced_of}
-use Rattle.timers.specs.Calls.{Timing, live_at}
+use Rattle.timers.specs.declared.Timing.{Timing}
+use Rattle.timers.specs.Calls.{live_at}
 use Rattle.laws.specs.Words.{Words}
 use Rattle.laws.specs.Rooms.{given_by, given_of, is_cancelled, InUses}
 use Rattle.laws.proofs.AnyCall.Found.{lowest_free_lem, lowest_in}

@@ -22,7 +22,8 @@ use Rattle.state.specs.State.{timer_at, is_waiting}
 use Rattle.state.specs.Sound.{Sound}
 use Rattle.state.specs.declared.Life.{Life}
 use Rattle.moves.specs.Rules.{Ring, rung_word, rung_life, reports, rung_timer, rung_of}
-use Rattle.timers.specs.Calls.{Timing, timing_of, live_at}
+use Rattle.timers.specs.declared.Timing.{Timing}
+use Rattle.timers.specs.Calls.{timing_of, live_at}
 use Rattle.laws.specs.EntryOf.{entry_of, waiting}
 use Rattle.laws.proofs.Handles.Naming.{names, names_same, live_by, live_in_range, live_told}
 use Rattle.laws.proofs.Handles.Still.{rung_stays}

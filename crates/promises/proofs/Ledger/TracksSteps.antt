@@ -22,7 +22,8 @@ use Rattle.moves.specs.Rules.{touched_of, drained_of, Ring, advanced_of}
 use Rattle.timers.specs.declared.Call.{Call}
 use Rattle.timers.specs.declared.Call.TheVariants as C
 use Rattle.timers.specs.Values.{Value}
-use Rattle.timers.specs.Calls.{Timing, live_at, reset_to, Lent, lent, with_list, step}
+use Rattle.timers.specs.declared.Timing.{Timing}
+use Rattle.timers.specs.Calls.{live_at, reset_to, Lent, lent, with_list, step}
 use Rattle.laws.specs.Words.{Fit}
 use Rattle.laws.proofs.AnyCall.CallCases.{LetIn, add_by, reset_by, cancel_by, drain_by, close_by, wake_by_lem, poll_by_lem, tick_by, restart_by, advance_by, turn_by}
 use Rattle.laws.proofs.Soundness.DrainSound.{drained_sound, drained_open}

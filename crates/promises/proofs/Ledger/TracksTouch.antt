@@ -18,7 +18,8 @@ use Rattle.state.specs.State.{timer_at, is_waiting}
 use Rattle.state.specs.Handles.{handle_discrete}
 use Rattle.state.specs.Sound.{Sound}
 use Rattle.moves.specs.Rules.{touched_of, lowest_free}
-use Rattle.timers.specs.Calls.{Timing, live_at, reset_to}
+use Rattle.timers.specs.declared.Timing.{Timing}
+use Rattle.timers.specs.Calls.{live_at, reset_to}
 use Rattle.laws.specs.EntryOf.{held_entry, entry_of, waiting}
 use Rattle.laws.proofs.Handles.Naming.{live_told}
 use Rattle.laws.proofs.Handles.ByHandle.{handle_at, one_handle, live_others, live_touched, added_lives, added_others}

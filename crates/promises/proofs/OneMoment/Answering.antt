@@ -31,7 +31,8 @@ use Rattle.timers.specs.declared.Call.{Call}
 use Rattle.timers.specs.declared.Call.TheVariants as C
 use Rattle.timers.specs.Values.{Value, nothing, handle, wake, polled, time}
 use Rattle.timers.specs.Calls as Calls
-use Rattle.timers.specs.Calls.{Timing, timing_of, Lent, guarded, opened, alive, live_at, lent, rang, roomy, ticked, ticked_by, restarted_by, wake_by, step}
+use Rattle.timers.specs.declared.Timing.{Timing}
+use Rattle.timers.specs.Calls.{timing_of, Lent, guarded, opened, alive, live_at, lent, rang, roomy, ticked, ticked_by, restarted_by, wake_by, step}
 use Rattle.timers.proofs.Guarding.{sound_none}
 use Rattle.laws.specs.Words.{Fit}
 use Rattle.laws.specs.EntryOf.{entry_of, waiting}

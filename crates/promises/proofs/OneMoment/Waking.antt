@@ -19,7 +19,8 @@ use Rattle.state.specs.declared.Set.{Set}
 use Rattle.state.specs.declared.Handle.{Handle}
 use Rattle.state.specs.State.{timer_at}
 use Rattle.state.specs.Sound.{Sound, Unused}
-use Rattle.timers.specs.Calls.{Timing, timing_of, live_at, wake_by}
+use Rattle.timers.specs.declared.Timing.{Timing}
+use Rattle.timers.specs.Calls.{timing_of, live_at, wake_by}
 use Rattle.laws.specs.EntryOf.{held_entry, entry_of, waiting}
 use Rattle.laws.proofs.Handles.Naming.{names_same, live_in_range}
 use Rattle.laws.proofs.Handles.ByHandle.{handle_at}

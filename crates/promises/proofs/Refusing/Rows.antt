@@ -31,7 +31,8 @@ use Rattle.state.specs.declared.Handle.{Handle}
 use Rattle.state.specs.State.{timer_at}
 use Rattle.state.specs.Faults.{fault_of, sound_of}
 use Rattle.moves.specs.Rules.{taken, lowest_free}
-use Rattle.timers.specs.Calls.{Value, Lent, Timing, judged, refusing, guarded, opened, alive, timing_of, live_at, added_at, roomy, ticked, ticked_by, restarted_by}
+use Rattle.timers.specs.declared.Timing.{Timing}
+use Rattle.timers.specs.Calls.{Value, Lent, judged, refusing, guarded, opened, alive, timing_of, live_at, added_at, roomy, ticked, ticked_by, restarted_by}
 use Rattle.promises.specs.Conditions.{damaged, life_at, not_live, dead, free_at, full, short, word_in, due_in, not_fired, is_skip, zero_period, above, late_sum, tick_sum}
 use Rattle.promises.specs.Table.{refusal_in}
 

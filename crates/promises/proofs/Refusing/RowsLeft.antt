@@ -28,7 +28,8 @@ use Rattle.state.specs.declared.Set.{Set}
 use Rattle.state.specs.declared.Handle.{Handle}
 use Rattle.state.specs.State.{timer_at}
 use Rattle.state.specs.Faults.{fault_of, sound_of}
-use Rattle.timers.specs.Calls.{judged, Value, nothing, Timing, gives, live_at, alive, living, door_of}
+use Rattle.timers.specs.declared.Timing.{Timing}
+use Rattle.timers.specs.Calls.{judged, Value, nothing, gives, live_at, alive, living, door_of}
 use Rattle.timers.specs.Left.{left_at, time_left_by, time_left_of, pending_in, pending_at, or_none, least_by, least_left_of, soonest_of}
 use Rattle.timers.proofs.Shortest.{least_by_due}
 use Rattle.promises.specs.Conditions as Conditions
