@@ -1,8 +1,10 @@
 -- The lowest free place, where there is one, is touched as a live timer's, and named with its use number.
 -- Assumes nothing.
 use native.Mathlib.Omega.{arith}
+use Rattle.timers.proofs.Guarding.{opened_lets}
+use mathlib.Core.Path.{sym, ap, ◌∙◌}
 use Rattle.refusals.proofs.Refusing.{not_both}
-use Rattle.timers.specs.Calls.{open_of, guarded, add_of}
+use Rattle.timers.specs.Calls.{open_of, guarded, added_at, add_of}
 use Rattle.timers.proofs.Alive.{free_place}
 use Rattle.timers.proofs.add.Goals as goal
 
@@ -11,8 +13,10 @@ unfolding open_of guarded add_of
 returns-in-Err c = grind (arith, not_both)
 
 pub returns-in_default-lowest_free : goal.returns-in_default-lowest_free
-unfolding open_of guarded add_of
-returns-in_default-lowest_free c = grind arith
+unfolding add_of
+returns-in_default-lowest_free c =
+    rw c.kept-in_default-lowest_free.ensures
+    (sym (opened_lets _ _ _ c.in_default.ensures ∙ ap (added_at c.args.s c.args.due) (sym c.in_default-lowest_free.ensures)))
 
 pub bounds-s-place : goal.bounds-s-place
 bounds-s-place c = free_place _ c.in-Some.ensures
@@ -21,5 +25,7 @@ pub touched-requires : goal.touched-requires
 touched-requires c = free_place _ c.in-Some.ensures
 
 pub returns : goal.returns
-unfolding open_of guarded add_of
-returns c = grind arith
+unfolding add_of
+returns c =
+    rw (c.given.ensures, c.touched.ensures)
+    (sym (opened_lets _ _ _ c.in_default.ensures ∙ ap (added_at c.args.s c.args.due) (sym c.in-Some.ensures)))

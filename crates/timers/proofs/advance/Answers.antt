@@ -2,11 +2,15 @@
 -- the list is as it was.
 -- Assumes nothing.
 use native.Mathlib.Omega.{arith}
+use Rattle.heap.specs.Capacity.{cap}
+use lib.ListN.{length}
+use borrow.Author.Tests.{le-leb}
+use mathlib.Core.Path.{sym, ap, ◌∙◌}
 use Rattle.refusals.proofs.Refusing.{not_both}
 use borrow.Author.Rules.{rules}
 use Rattle.theory.proofs.Stores.{unmapped}
-use Rattle.timers.proofs.Guarding.{opened_sound}
-use Rattle.timers.specs.Calls.{open_of, guarded, advance_of}
+use Rattle.timers.proofs.Guarding.{opened_lets, opened_sound}
+use Rattle.timers.specs.Calls.{open_of, guarded, lent, rang, advance_of}
 use Rattle.timers.proofs.advance.Goals as goal
 
 pub returns-in-Err : goal.returns-in-Err
@@ -21,5 +25,9 @@ pub advanced-reported-requires-clause-sound : goal.advanced-reported-requires-cl
 advanced-reported-requires-clause-sound c = opened_sound c.args.s (search (rules, unmapped)) (search (rules, unmapped)) c.in_default.ensures
 
 pub returns : goal.returns
-unfolding open_of guarded advance_of
-returns c = grind arith
+unfolding advance_of
+returns c =
+    let a = c.args in
+    rw c.given.ensures
+    (ap rang c.advanced-reported.ensures
+    ∙ sym (opened_lets a.s (lent a.s a.list.now) _ c.in_default.ensures ∙ rw (le-leb cap (length a.list.now) c.if-list-lt-CAP.false)))

@@ -1,6 +1,8 @@
 -- A live timer is reset to the deadline.
 -- Assumes nothing.
 use native.Mathlib.Omega.{arith}
+use Rattle.timers.proofs.Guarding.{door_lets}
+use mathlib.Core.Path.{sym}
 use Rattle.refusals.proofs.Refusing.{not_both}
 use Rattle.timers.specs.Calls.{guarded, door_of, reset_of}
 use Rattle.timers.proofs.Alive.{live_place}
@@ -10,8 +12,8 @@ pub reset_to-requires : goal.reset_to-requires
 reset_to-requires c = live_place _ _ _ c.in-Ok.ensures
 
 pub returns-in-Ok : goal.returns-in-Ok
-unfolding guarded door_of reset_of
-returns-in-Ok c = grind arith
+unfolding reset_of
+returns-in-Ok c = rw (c.given.ensures, c.reset_to.ensures) (sym (door_lets _ _ _ _ c.in-Ok.ensures))
 
 pub returns-in-Err : goal.returns-in-Err
 unfolding guarded door_of reset_of
