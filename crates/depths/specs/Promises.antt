@@ -4,7 +4,9 @@
 use Rattle.std.specs.Prelude.{◌≡◌, ℕ}
 use Rattle.interval.specs.declared.Policy.TheVariants.{Skip}
 use Rattle.state.specs.State.{fresh_of}
-use Rattle.timers.specs.declared.After.{After}
+use Rattle.refusals.specs.declared.outcome.Outcome.{Outcome}
+use Rattle.state.specs.declared.Set.{Set}
+use Rattle.timers.specs.declared.Reply.{Reply}
 use Rattle.timers.specs.Calls.{gives, nothing, add_of, reset_of, cancel_of, drain_of, advance_of, turn_of, next_wake_of, poll_of, close_of, tick_at, restart_at, step, told}
 use Rattle.timers.specs.Left.{time_left_of, least_left_of}
 use Rattle.depths.specs.Rules.{handle_at, call_in, built_of, told_of, plain, blank, seen, seen_of, seen_answer}
@@ -56,5 +58,5 @@ Performs x n p v r b a = seen r b a ≡ seen_of (plain (step (built_of x) (call_
 
 -- and the number that is told of an answer
 
-abbrev pub Tells : After → ℕ → Type 0
+abbrev pub Tells : Outcome Set Reply → ℕ → Type 0
 Tells a r = r ≡ told_of (told a)

@@ -1,7 +1,9 @@
 -- The rules of the calls and queries that are measured: the set that each is made on, and the number that is told of its answer. What
 -- each does is in the rules of `timers`.
 -- Assumes nothing.
-use Rattle.std.specs.Prelude.{cond, List, [], ◌∷◌, ℕ, zero, suc, ◌+◌, ◌-◌, ◌/◌, ◌%◌, get_or, replicate}
+use Rattle.std.specs.Prelude.{Result, Ok, Err, cond, List, [], ◌∷◌, ℕ, zero, suc, ◌+◌, ◌-◌, ◌/◌, ◌%◌, get_or, replicate}
+use Rattle.refusals.specs.declared.Refusal.{Refusal}
+use Rattle.refusals.specs.Numbers.{number_of}
 use Rattle.refusals.specs.Answer.{Answer, Outcome, number_in}
 use Rattle.heap.specs.Capacity.{cap}
 use Rattle.interval.specs.declared.Policy.TheVariants.{Skip}
@@ -52,6 +54,11 @@ each_of x s = each_from (cap - x / 16 % 16) (x % 16) (x / 16 % 16) s
 -- four stages, the lowest byte first
 unfoldable pub built_of : ℕ → Set
 built_of x = each_of (x / 16777216) (each_of (x / 65536) (each_of (x / 256) (each_of x fresh_of)))
+
+-- the number of a refusal, and 0 for an answer
+abbrev pub code_of : {A : Type 0} → Result A Refusal → ℕ
+code_of (Ok v) = 0
+code_of (Err r) = number_of r
 
 -- what is told of an outcome, and 100 where its set is not sound
 abbrev pub told_of : Outcome Set Value → ℕ

@@ -6,19 +6,15 @@
 #![tactic(auto)]
 
 ghost use Rattle.std.specs.Prelude.{◌≡◌};
-ghost use Rattle.refusals.specs.Answer.{number_in};
-ghost use Rattle.refusals.specs.Times.{said_left};
-ghost use Rattle.timers.specs.Calls.{said};
-ghost use Rattle.timers.specs.Left.{said_least};
-ghost use Rattle.depths.specs.Rules.{handle_at, call_in, made_of, each_of, built_of};
+ghost use Rattle.depths.specs.Rules.{code_of, handle_at, call_in, made_of, each_of, built_of};
 ghost use Rattle.depths.specs.Promises.{Tells, Fresh, Adds, Resets, Cancels, Drains, Advances, Turns, Wakes, Polls, Closes, Ticks, Restarts, TellsLeft, TellsLeast, Performs};
 
 use heap::Place;
 use interval::Policy;
-use refusals::time::Left;
+use refusals::Refusal;
+use refusals::outcome::Outcome;
 use state::{Handle, Set};
-use timers::left::Least;
-use timers::{After, Call, Reply};
+use timers::{Call, Reply};
 
 // A fresh set.
 #[unsafe(no_mangle)]
@@ -26,12 +22,9 @@ pub extern "C" fn depth_fresh(before: &mut u64, after: &mut u64) -> u64
     ensures { Fresh result before.new after.new }
 {
     *before = 1;
-    let g = state::fresh();
+    let set = state::fresh();
     *after = 1;
-    told(After {
-        set: g,
-        reply: Reply::Done,
-    })
+    told(Outcome::given(set, Reply::Done))
 }
 
 #[unsafe(no_mangle)]
@@ -192,7 +185,7 @@ pub extern "C" fn depth_time_left(
     *before = 1;
     let l = timers::left::time_left(s, handle(place), reading);
     *after = 1;
-    code_left(l)
+    code(l)
 }
 
 #[unsafe(no_mangle)]
@@ -208,7 +201,7 @@ pub extern "C" fn depth_least_left(
     *before = 1;
     let l = timers::left::least_left(s, reading);
     *after = 1;
-    code_least(l)
+    code(l)
 }
 
 // Any call, by its number.
@@ -234,42 +227,23 @@ pub extern "C" fn depth_perform(
 
 // What is answered: 0 where the call is accepted, the number of its refusal, and 100 where the set is not sound. It looks at the whole
 // set, so that no part of the call goes unused.
-fn told(a: After) -> u64
+fn told(a: Outcome<Set, Reply>) -> u64
     ensures { Tells a result }
 {
-    let g = a.set;
-    let y = a.reply;
-    if state::sound(g) { code(y) } else { 100 }
+    if state::sound(a.state) {
+        code(a.answer)
+    } else {
+        100
+    }
 }
 
 // The number of a refusal; 0 for an answer.
-fn code(reply: Reply) -> u64
-    ensures { result ≡ number_in (said reply) }
+fn code<T: Copy>(answer: Result<T, Refusal>) -> u64
+    ensures { result ≡ code_of answer }
 {
-    match reply {
-        Reply::Refused(why) => refusals::number(why) as u64,
-        _ => 0,
-    }
-}
-
-// The same of a time left. A query hands no set back, so this is all that is answered of it.
-fn code_left(left: Left) -> u64
-    ensures { result ≡ number_in (said_left left) }
-{
-    match left {
-        Left::Nanos(_) => 0,
-        Left::Refused(why) => refusals::number(why) as u64,
-    }
-}
-
-// And of a least left.
-fn code_least(least: Least) -> u64
-    ensures { result ≡ number_in (said_least least) }
-{
-    match least {
-        Least::Nothing => 0,
-        Least::Nanos(_) => 0,
-        Least::Refused(why) => refusals::number(why) as u64,
+    match answer {
+        Ok(_) => 0,
+        Err(why) => refusals::number(why) as u64,
     }
 }
 
@@ -284,6 +258,7 @@ fn handle(place: u16) -> Handle
 }
 
 // The call with a number: those of a record, then tick and interval reset.
+#[tactic(auto, unfolding(crate::specs::Rules::call_in))]
 fn call_of(number: u8, place: u16, value: u64) -> Call
     ensures { result ≡ call_in number place value }
 {
@@ -327,17 +302,15 @@ fn built(stages: u64) -> Set
 
 // A stage, the low byte of a number: the call whose number is in its lower half is made for every place, or for all but as many of
 // the first as its upper half says.
-fn each(s: Set, stage: u64) -> Set
+fn each(mut s: Set, stage: u64) -> Set
     ensures { result ≡ each_of stage s }
 {
     let number = (stage % 16) as u8;
-    let mut g = s;
-    let mut p = (stage / 16 % 16) as usize;
-    while p < heap::CAP {
-        g = made(g, number, p as u16);
-        p += 1;
+    let first = (stage / 16 % 16) as u16;
+    for place in first..heap::CAP as u16 {
+        s = made(s, number, place);
     }
-    g
+    s
 }
 
 // A call for a place, with its number and one more as the deadline or the reading.
@@ -345,7 +318,5 @@ fn made(s: Set, number: u8, place: u16) -> Set
     ensures { result ≡ made_of s number place }
 {
     let mut list = [0u64; heap::CAP];
-    let a = timers::perform(s, call_of(number, place, place as u64 + 1), &mut list);
-    let g = a.set;
-    g
+    timers::perform(s, call_of(number, place, place as u64 + 1), &mut list).state
 }

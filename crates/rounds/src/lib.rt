@@ -11,10 +11,11 @@ ghost use Rattle.std.specs.Prelude.{◌≡◌, ◌≤◌};
 ghost use Rattle.heap.specs.Capacity.{cap};
 ghost use Rattle.state.specs.Handles.{said_named};
 ghost use Rattle.timers.specs.Calls.{said};
-ghost use Rattle.rounds.specs.Rules.{mixed_of, counts_in, least_of, start_of, reset_by, reset_of, reset_from};
+ghost use Rattle.rounds.specs.Rules.{mixed_of, counts_in, start_of, reset_by, reset_of, reset_from};
 ghost use Rattle.rounds.specs.Promises.{Runs, Rounds};
 
-use state::{Named, Set};
+use refusals::Refusal;
+use state::{Handle, Set};
 use timers::Reply;
 
 // What is carried from one call to the next: the set, the deadline that was given last, and the checksum so far.
@@ -38,7 +39,7 @@ pub struct Counts {
 pub extern "C" fn rounds_run(due: u64, turns: u64) -> u64
     ensures { Runs due turns result }
 {
-    let step = least(due as usize) as u64;
+    let step = due.min(heap::CAP as u64);
     let mut list = [0u64; heap::CAP];
     let mut run = Run {
         set: started(),
@@ -46,11 +47,9 @@ pub extern "C" fn rounds_run(due: u64, turns: u64) -> u64
         sum: 0,
     };
     let mut reading: u64 = 0;
-    let mut left = turns;
-    while 0 < left {
-        reading = std::num::wrapping_add_u64(reading, step);
+    for _ in 0..turns {
+        reading = reading.wrapping_add(step);
         run = round(run, reading, &mut list);
-        left -= 1;
     }
     run.sum
 }
@@ -59,20 +58,17 @@ pub extern "C" fn rounds_run(due: u64, turns: u64) -> u64
 fn round(run: Run, reading: u64, list: &mut [u64; heap::CAP]) -> Run
     ensures { Rounds run reading list.old result list.new }
 {
-    let s = run.set;
-    let a = timers::turn(s, reading, list);
-    let g = a.set;
-    let y = a.reply;
-    let c = counted(y);
+    let a = timers::turn(run.set, reading, list);
+    let c = counted(a.answer);
     let sum = mixed(mixed(run.sum, c.reported as u64), c.popped as u64);
     reset_all(
         Run {
-            set: g,
-            last: run.last,
+            set: a.state,
             sum,
+            ..run
         },
         list,
-        least(c.reported),
+        c.reported.min(heap::CAP),
     )
 }
 
@@ -81,80 +77,58 @@ fn started() -> Set
     ensures { result ≡ start_of }
 {
     let mut g = state::fresh();
-    let mut n: usize = 0;
-    while n < heap::CAP {
-        n += 1;
-        let a = timers::add(g, n as u64);
-        g = a.set;
+    for due in 1..=heap::CAP as u64 {
+        g = timers::add(g, due).state;
     }
-    let d = timers::drain(g);
-    let s = d.set;
-    s
+    timers::drain(g).state
 }
 
 // Resets the first `count` timers of a report list, each to the deadline after the last one.
-fn reset_all(run: Run, list: &[u64; heap::CAP], count: usize) -> Run
+fn reset_all(mut run: Run, list: &[u64; heap::CAP], count: usize) -> Run
     requires { count ≤ cap }
     ensures { result ≡ reset_from count list.now 0 run }
 {
-    let mut g = run;
-    let mut j: usize = 0;
-    while j < count {
-        let word = list[j];
-        g = reset_one(g, word);
-        j += 1;
+    for word in &list[..count] {
+        run = reset_one(run, *word);
     }
-    g
+    run
 }
 
 // Resets the timer that a report names to the deadline after the last one.
 fn reset_one(run: Run, word: u64) -> Run
     ensures { result ≡ reset_of run word }
 {
-    let s = run.set;
-    let last = std::num::wrapping_add_u64(run.last, 1);
+    let last = run.last.wrapping_add(1);
     Run {
-        set: reset_named(s, state::handle_of(word), last),
+        set: reset_named(run.set, state::handle_of(word), last),
         last,
         sum: mixed(run.sum, word),
     }
 }
 
 // The set with the timer reset that is named; where nobody is, as it was.
-fn reset_named(s: Set, named: Named, due: u64) -> Set
+fn reset_named(s: Set, named: Option<Handle>, due: u64) -> Set
     ensures { result ≡ reset_by s (said_named named) due }
 {
     match named {
-        Named::Nobody => s,
-        Named::Handle(handle) => {
-            let a = timers::reset(s, handle, due);
-            let g = a.set;
-            g
-        }
+        None => s,
+        Some(handle) => timers::reset(s, handle, due).state,
     }
-}
-
-// The number, and where it is more than there are places that one.
-fn least(n: usize) -> usize
-    ensures { (result ≡ least_of n) × (result ≤ cap) }
-{
-    if n < heap::CAP { n } else { heap::CAP }
 }
 
 // The checksum with one more number: three times what it was, and the number, so that the order counts.
 fn mixed(sum: u64, number: u64) -> u64
     ensures { result ≡ mixed_of sum number }
 {
-    let twice = std::num::wrapping_add_u64(sum, sum);
-    std::num::wrapping_add_u64(std::num::wrapping_add_u64(twice, sum), number)
+    sum.wrapping_mul(3).wrapping_add(number)
 }
 
 // The counts that a turn answers.
-fn counted(reply: Reply) -> Counts
-    ensures { result ≡ counts_in (said reply) }
+fn counted(answer: Result<Reply, Refusal>) -> Counts
+    ensures { result ≡ counts_in (said answer) }
 {
-    match reply {
-        Reply::Ran { reported, popped } => Counts { reported, popped },
+    match answer {
+        Ok(Reply::Ran { reported, popped }) => Counts { reported, popped },
         _ => Counts {
             reported: 0,
             popped: 0,

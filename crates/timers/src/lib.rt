@@ -266,6 +266,7 @@ pub fn restart(s: Set, handle: Handle, period: u64, reading: u64) -> Outcome<Set
 }
 
 // Any call: its own function makes it.
+#[tactic(auto, unfolding(crate::specs::Calls::step))]
 pub fn perform(s: Set, call: Call, list: &mut [u64]) -> Outcome<Set, Reply>
     ensures { Performs s call list.old result list.new }
 {

@@ -1,27 +1,29 @@
 -- At each turn the words to go make of the run what all of them make of the first one.
 -- Assumes nothing.
-use Rattle.std.proofs.Common.{◌≡◌, ℕ, ◌+◌, ◌-◌, get_or, sym, ap, ◌∙◌, arith}
+use Rattle.std.proofs.Common.{◌≡◌, ℕ, ◌+◌, ◌-◌, ◌<◌, sym, ap, ◌∙◌, arith, length-take}
+use Rattle.std.proofs.lemmas.List.{get_or-take}
 use Rattle.rounds.specs.declared.Run.{Run}
 use Rattle.rounds.specs.Rules.{reset_of, reset_from}
 use Rattle.rounds.proofs.Walks.{reset_goes, reset_done}
 use Rattle.rounds.proofs.reset_all.Goals as goal
 
-pub loop-j-preserved : goal.loop-j-preserved
-loop-j-preserved c =
+pub loop-word-init : goal.loop-word-init
+loop-word-init c = let m : c.args.count - 0 ≡ c.args.count = omega arith in ap (λ (n : ℕ). reset_from n c.args.list.now 0 c.args.run) m
+
+pub loop-word-preserved : goal.loop-word-preserved
+loop-word-preserved c =
     let a = c.args in
-    let l = c.loop-j in
-    let j = l.j in
-    let fewer : a.count - (j + 1) ≡ a.count - j - 1 = omega arith in
-    let w = get_or a.list.now j 0 in (
-      omega arith,
-      ap (λ (r : Run). reset_from (a.count - (j + 1)) a.list.now (j + 1) r) c.reset_one-g.ensures
-          ∙ ap (λ (k : ℕ). reset_from k a.list.now (j + 1) (reset_of l.g w)) fewer
-          ∙ sym (reset_goes (a.count - j) a.list.now j l.g (omega arith))
-          ∙ l.invariant.1,
-    )
+    let l = c.loop-word in
+    let i = l.word-index in
+    let left = a.count - (i + 1) in
+    let in_count : i < a.count = omega (arith, length-take a.count a.list.now) in
+    ap (λ (r : Run). reset_from left a.list.now (i + 1) r)
+    (c.reset_one-run.ensures ∙ ap (λ (w : ℕ). reset_of l.run w) (get_or-take a.count a.list.now i 0 in_count))
+    ∙ sym (reset_goes (a.count - i) left a.list.now i l.run (omega arith))
+    ∙ l.invariant
 
 pub returns : goal.returns
 returns c =
     let a = c.args in
-    let l = c.loop-j in
-    sym (reset_done (a.count - l.j) a.list.now l.j l.g (omega arith)) ∙ l.invariant.1
+    let l = c.loop-word in
+    sym (reset_done (a.count - l.word-index) a.list.now l.word-index l.run (omega (arith, length-take a.count a.list.now))) ∙ l.invariant
