@@ -1,7 +1,4 @@
-pub mod Answers
-pub mod Readings
-pub mod Writing
-pub mod Settled
-pub mod Turned
+pub mod Calling
+pub mod Turning
 pub mod NoSecond
 pub mod Refused

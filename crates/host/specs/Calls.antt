@@ -61,6 +61,13 @@ reporting b out o = record {
 unfoldable pub turn_on : List ℕ → ℕ → List ℕ → Outcome Board Value
 turn_on b N out = on_image b (record { image = b; reports = out }) (λ s. reporting b out (turn_of s N (list_in (length out))))
 
+-- the same of an image and the list that is lent to the engine
+abbrev pub lending : List ℕ → Outcome Lent Value → Outcome (List ℕ × List ℕ) Value
+lending b o = record { state = (image_after b o.answer o.state.set, o.state.list); answer = o.answer }
+
+unfoldable pub lent_on : List ℕ → ℕ → List ℕ → Outcome (List ℕ × List ℕ) Value
+lent_on b N l = on_image b (b, l) (λ s. lending b (turn_of s N l))
+
 -- NEXT WAKE, which writes no image
 unfoldable pub next_wake_on : List ℕ → Answer Value
 next_wake_on b = (on_image b b (λ s. kept b (next_wake_of s).answer)).answer

@@ -1,16 +1,20 @@
 -- What each function promises: of the image b, the report bytes and the numbers that are lent, as they are afterwards, and of its
 -- answer r. A name with a dash is what was lent as it is afterwards.
 -- Assumes nothing.
-use Rattle.std.specs.Prelude.{◌≡◌, List, ℕ, min}
+use Rattle.std.specs.Prelude.{◌≡◌, List, ℕ, Result, Ok, Err}
+use Rattle.std.proofs.lemmas.List.Edits.{sets}
 use Rattle.refusals.specs.declared.Refusal.{Refusal}
+use Rattle.refusals.specs.declared.outcome.Outcome as Code
 use Rattle.refusals.specs.Answer.{Answer, accepted, refused, unsound, refuse, Outcome, Nothing, kept}
-use Rattle.heap.specs.Capacity.{cap}
+use Rattle.digits.specs.Digits.{digits}
+use Rattle.digits.specs.Rows.{blocks}
 use Rattle.state.specs.declared.Set.{Set}
-use Rattle.timers.specs.declared.After.{After}
+use Rattle.timers.specs.declared.Reply.{Reply}
 use Rattle.timers.specs.Values.{Value}
 use Rattle.timers.specs.Calls.{said}
 use Rattle.image.specs.Calls.{write_of}
-use Rattle.host.specs.Numbers.{status_of, reported_in}
+use Rattle.host.specs.Numbers.{status_of}
+use Rattle.host.specs.Calls.{add_on, reset_on, cancel_on, lent_on, next_wake_on}
 use Rattle.host.specs.Seen.{fresh_image, fresh_status, added_image, added_handle, added_status, reset_image, reset_status, cancelled_image, cancelled_status, turned_image, turned_reports, turned_count, turned_status, woken_any, woken_at, woken_status}
 
 pub record Freshens (b b' : List ℕ) (r : ℕ) : Type 0 where
@@ -43,29 +47,49 @@ pub record Wakes (b : List ℕ) (any wake any' wake' r : ℕ) : Type 0 where
 
 -- and the functions inside
 
--- the status of a refusal
-abbrev pub Tells : Refusal → ℕ → Type 0
-Tells why r = r ≡ status_of {A = Nothing} (refuse why)
+-- what a call answers and leaves of an image
+abbrev pub left : {S : Type 0} → S → Result Reply Refusal → Outcome S Value
+left k r = record { state = k; answer = said r }
 
--- a set is written over the image
-pub record Leaves (o : Outcome (List ℕ) Nothing) (b' : List ℕ) (r : ℕ) : Type 0 where
-  pub image : b' ≡ o.state
-  pub status : r ≡ status_of o.answer
+abbrev pub Added : List ℕ → ℕ → List ℕ → Result Reply Refusal → Type 0
+Added b d b' r = left b' r ≡ add_on b d
 
-abbrev pub Makes : Set → List ℕ → List ℕ → ℕ → Type 0
-Makes s b b' r = Leaves (write_of s b) b' r
+abbrev pub Reset : List ℕ → ℕ → ℕ → List ℕ → Result Reply Refusal → Type 0
+Reset b w d b' r = left b' r ≡ reset_on b w d
 
--- the set of an accepted call is
-abbrev pub end_of : List ℕ → Answer Value → Set → Outcome (List ℕ) Nothing
-end_of b (accepted v) s = write_of s b
+abbrev pub Cancelled : List ℕ → ℕ → List ℕ → Result Reply Refusal → Type 0
+Cancelled b w b' r = left b' r ≡ cancel_on b w
+
+-- a turn with a list, which is left as the turn leaves it
+abbrev pub Turned : List ℕ → ℕ → List ℕ → List ℕ → List ℕ → Result Reply Refusal → Type 0
+Turned b N l b' l' r = left (b', l') r ≡ lent_on b N l
+
+abbrev pub Woken : List ℕ → Result Reply Refusal → Type 0
+Woken b r = said r ≡ next_wake_on b
+
+-- a value, where something else is accepted
+abbrev pub given : Value → Answer Nothing → Answer Value
+given v (accepted u) = accepted v
+given v (refused n) = refused n
+given v (unsound x) = unsound x
+
+-- the set of an accepted call is written over the image; a refused call leaves the image
+abbrev pub end_of : List ℕ → Answer Value → Set → Outcome (List ℕ) Value
+end_of b (accepted v) s = record { state = (write_of s b).state; answer = given v (write_of s b).answer }
 end_of b (refused n) s = kept b (refused n)
 end_of b (unsound x) s = kept b (unsound x)
 
-abbrev pub Ends : After → List ℕ → List ℕ → ℕ → Type 0
-Ends a b b' r = Leaves (end_of b (said a.reply) a.set) b' r
+abbrev pub Ends : Code.Outcome Set Reply → List ℕ → List ℕ → Result Reply Refusal → Type 0
+Ends a b b' r = left b' r ≡ end_of b (said a.answer) a.state
 
-abbrev pub Least : ℕ → ℕ → Type 0
-Least n r = r ≡ min n cap
+-- the status of an answer
+abbrev pub status_in : {A : Type 0} → Result A Refusal → ℕ
+status_in (Ok v) = 0
+status_in (Err w) = status_of {A = Nothing} (refuse w)
 
-abbrev pub Puts : List ℕ → ℕ → List ℕ → List ℕ → Type 0
-Puts out n l out' = out' ≡ reported_in out n l
+abbrev pub Tells : {A : Type 0} → Result A Refusal → ℕ → Type 0
+Tells a r = r ≡ status_in a
+
+-- words are put as bytes, eight each
+abbrev pub Puts : List ℕ → List ℕ → List ℕ → Type 0
+Puts ws out out' = out' ≡ sets out 0 (blocks (digits 8) ws)

@@ -7,19 +7,19 @@
 
 ghost use Rattle.std.specs.Prelude.{◌≡◌, ◌*◌, ◌≤◌, length};
 ghost use Rattle.host.specs.Numbers.{handle_from};
-ghost use Rattle.host.specs.Promises.{Tells, Ends, Makes, Puts, Least, Freshens, Adds, Resets, Cancels, Turns, Wakes};
+ghost use Rattle.host.specs.Promises.{Freshens, Adds, Resets, Cancels, Turns, Wakes, Added, Reset, Cancelled, Turned, Woken, Ends, Tells, Puts};
 
 use refusals::Refusal;
-use state::{Handle, Named};
-use timers::{After, Reply};
+use refusals::outcome::Outcome;
+use state::{Handle, Set};
+use timers::Reply;
 
 // Makes the image that of a fresh set.
 #[unsafe(no_mangle)]
 pub extern "C" fn nurberosh_fresh(image: &mut [u8]) -> u64
     ensures { Freshens image.old image.new result }
 {
-    let s = state::fresh();
-    written(s, image)
+    status(image::write(state::fresh(), image))
 }
 
 // Adds a timer, and hands its handle back.
@@ -27,19 +27,11 @@ pub extern "C" fn nurberosh_fresh(image: &mut [u8]) -> u64
 pub extern "C" fn nurberosh_add(image: &mut [u8], deadline: u64, handle: &mut u64) -> u64
     ensures { Adds image.old deadline handle.old image.new handle.new result }
 {
-    let got = image::read(image);
-    let found = got.reply;
-    if let image::Reply::Refused(why) = found {
-        return status(why);
+    let answer = add(image, deadline);
+    if let Ok(Reply::Added(new)) = answer {
+        *handle = state::handle_word(new);
     }
-    let s = got.set;
-    let a = timers::add(s, deadline);
-    let y = a.reply;
-    let Reply::Added(new) = y else {
-        return ended(a, image);
-    };
-    *handle = state::handle_word(new);
-    ended(a, image)
+    status(answer)
 }
 
 // Sets a live timer to another deadline.
@@ -47,14 +39,7 @@ pub extern "C" fn nurberosh_add(image: &mut [u8], deadline: u64, handle: &mut u6
 pub extern "C" fn nurberosh_reset(image: &mut [u8], handle: u64, deadline: u64) -> u64
     ensures { Resets image.old handle deadline image.new result }
 {
-    let got = image::read(image);
-    let found = got.reply;
-    if let image::Reply::Refused(why) = found {
-        return status(why);
-    }
-    let s = got.set;
-    let a = timers::reset(s, handle_from(handle), deadline);
-    ended(a, image)
+    status(reset(image, handle, deadline))
 }
 
 // Cancels a live timer.
@@ -62,14 +47,7 @@ pub extern "C" fn nurberosh_reset(image: &mut [u8], handle: u64, deadline: u64) 
 pub extern "C" fn nurberosh_cancel(image: &mut [u8], handle: u64) -> u64
     ensures { Cancels image.old handle image.new result }
 {
-    let got = image::read(image);
-    let found = got.reply;
-    if let image::Reply::Refused(why) = found {
-        return status(why);
-    }
-    let s = got.set;
-    let a = timers::cancel(s, handle_from(handle));
-    ended(a, image)
+    status(cancel(image, handle))
 }
 
 // Reports the timers that are owed and due: the words of their handles from the start of the report bytes on, and how many.
@@ -82,26 +60,16 @@ pub extern "C" fn nurberosh_turn(
 ) -> u64
     ensures { Turns image.old reading reports.old reported.old image.new reports.new reported.new result }
 {
-    let got = image::read(image);
-    let found = got.reply;
-    if let image::Reply::Refused(why) = found {
-        return status(why);
-    }
-    let s = got.set;
-    let room = least(reports.len() / 8);
-    let mut list = [0u64; heap::CAP];
-    let a = timers::turn(s, reading, &mut list[..room]);
-    let y = a.reply;
-    let Reply::Ran {
-        reported: n,
-        popped: _,
-    } = y
-    else {
-        return ended(a, image);
+    let room = (reports.len() / 8).min(heap::CAP);
+    let mut words = [0u64; heap::CAP];
+    let list = &mut words[..room];
+    let answer = turn(image, reading, list);
+    let Ok(Reply::Ran { reported: n, .. }) = answer else {
+        return status(answer);
     };
-    put_words(reports, &list, n);
+    put_words(reports, &list[..n]);
     *reported = n as u64;
-    ended(a, image)
+    status(answer)
 }
 
 // When the next turn is wanted: 1 and the time, or 0 where no timer has an entry in the heap.
@@ -109,55 +77,71 @@ pub extern "C" fn nurberosh_turn(
 pub extern "C" fn nurberosh_next_wake(image: &[u8], any: &mut u64, wake: &mut u64) -> u64
     ensures { Wakes image.now any.old wake.old any.new wake.new result }
 {
-    let got = image::read(image);
-    let found = got.reply;
-    if let image::Reply::Refused(why) = found {
-        return status(why);
+    let answer = next_wake(image);
+    if let Ok(Reply::Wake(next)) = answer {
+        *any = u64::from(next.is_some());
+        *wake = next.unwrap_or(*wake);
     }
-    let s = got.set;
-    let a = timers::next_wake(s);
-    let y = a.reply;
-    match y {
-        Reply::WakeAt(time) => {
-            *any = 1;
-            *wake = time;
-            0
-        }
-        Reply::NoWake => {
-            *any = 0;
-            0
-        }
-        Reply::Refused(why) => status(why),
-        _ => 0,
-    }
+    status(answer)
+}
+
+// An add to the set of an image.
+fn add(image: &mut [u8], deadline: u64) -> Result<Reply, Refusal>
+    ensures { Added image.old deadline image.new result }
+{
+    let s = image::read(image)?;
+    ended(timers::add(s, deadline), image)
+}
+
+// A reset in the set of an image, by the handle in a word.
+fn reset(image: &mut [u8], handle: u64, deadline: u64) -> Result<Reply, Refusal>
+    ensures { Reset image.old handle deadline image.new result }
+{
+    let s = image::read(image)?;
+    ended(timers::reset(s, handle_from(handle), deadline), image)
+}
+
+// A cancel in the set of an image, by the handle in a word.
+fn cancel(image: &mut [u8], handle: u64) -> Result<Reply, Refusal>
+    ensures { Cancelled image.old handle image.new result }
+{
+    let s = image::read(image)?;
+    ended(timers::cancel(s, handle_from(handle)), image)
+}
+
+// A turn of the set of an image, with a list for its reports.
+fn turn(image: &mut [u8], reading: u64, list: &mut [u64]) -> Result<Reply, Refusal>
+    ensures { Turned image.old reading list.old image.new list.new result }
+{
+    let s = image::read(image)?;
+    ended(timers::turn(s, reading, list), image)
+}
+
+// The next wake of the set of an image.
+fn next_wake(image: &[u8]) -> Result<Reply, Refusal>
+    ensures { Woken image.now result }
+{
+    let s = image::read(image)?;
+    timers::next_wake(s).answer
 }
 
 // Ends a call: where it is accepted its set is written over the image.
-fn ended(a: After, image: &mut [u8]) -> u64
+fn ended(a: Outcome<Set, Reply>, image: &mut [u8]) -> Result<Reply, Refusal>
     ensures { Ends a image.old image.new result }
 {
-    let y = a.reply;
-    if let Reply::Refused(why) = y {
-        return status(why);
-    }
-    let g = a.set;
-    written(g, image)
+    let reply = a.answer?;
+    image::write(a.state, image)?;
+    Ok(reply)
 }
 
-// Writes a set over the image.
-fn written(s: state::Set, image: &mut [u8]) -> u64
-    ensures { Makes s image.old image.new result }
+// The status of an answer: 0 where it is accepted; else the number of the refusal, and with 1 the kind of the fault from bit 8 on and where
+// it is from bit 16 on.
+fn status<T: Copy>(answer: Result<T, Refusal>) -> u64
+    ensures { Tells answer result }
 {
-    match image::write(s, image) {
-        image::Reply::Done => 0,
-        image::Reply::Refused(why) => status(why),
-    }
-}
-
-// The status of a refusal: its number, and with 1 the kind of the fault from bit 8 on and where it is from bit 16 on.
-fn status(why: Refusal) -> u64
-    ensures { Tells why result }
-{
+    let Err(why) = answer else {
+        return 0;
+    };
     let number = refusals::number(why) as u64;
     let Refusal::Unsound(f) = why else {
         return number;
@@ -171,33 +155,19 @@ fn status(why: Refusal) -> u64
 fn handle_from(word: u64) -> Handle
     ensures { result ≡ handle_from word }
 {
-    match state::handle_of(word) {
-        Named::Nobody => Handle {
-            place: heap::Place(65_535),
-            uses: 0,
-        },
-        Named::Handle(h) => h,
-    }
+    state::handle_of(word).unwrap_or(Handle {
+        place: heap::Place(65_535),
+        uses: 0,
+    })
 }
 
-// The number, and where it is more than there are places that one.
-fn least(n: usize) -> usize
-    ensures { Least n result }
+// Puts words as bytes, eight each, from the start on.
+fn put_words(out: &mut [u8], words: &[u64])
+    requires { length words.now * 8 ≤ length out.old }
+    ensures { Puts words.now out.old out.new }
 {
-    if n < heap::CAP { n } else { heap::CAP }
-}
-
-// Puts the first n words of a list as bytes, eight each.
-fn put_words(out: &mut [u8], list: &[u64], n: usize)
-    requires n_in_bounds { n ≤ length list.now }
-    requires n_in_bounds_2 { n * 8 ≤ length out.old }
-    ensures { Puts out.old n list.now out.new }
-{
-    let mut next: usize = 0;
-    let mut i: usize = 0;
-    while i < n {
-        let word = list[i];
-        next = digits::put(out, next, 8, word);
-        i += 1;
+    let mut next = 0;
+    for word in words {
+        next = digits::put(out, next, 8, *word);
     }
 }

@@ -1,49 +1,52 @@
--- A turn of the set that was read, its reports put as words, and its set written back. A turn that reports has a list as long as
--- there are timers, so the report bytes have room for all its words.
+-- A turn that reports puts its words; any other leaves the report bytes and the count.
 -- Assumes nothing.
-use mathlib.Core.Path.{refl, ap}
+use mathlib.Core.Path.{◌≡◌, sym, ap, ◌∙◌}
 use Prim.Native.Nat.{ℕ}
 use native.Mathlib.Omega.{arith}
 use borrow.Author.Rules.{rules}
-use lib.ListN.{get_or, take, drop, replicate}
-use mir.Val.{Fits}
-use mir.Syntax.{w8}
-use Rattle.digits.specs.Digits.{Bytes}
-use Rattle.heap.specs.Capacity.{cap}
-use Rattle.host.proofs.Readings.{not_ran}
-use Rattle.host.proofs.Turned.{turn_refused, quiet, ran_within, ran_room, ran}
+use lib.ListN.{length-take}
+use Rattle.std.specs.Prelude.{Result, Ok}
+use Rattle.refusals.specs.declared.Refusal.{Refusal}
+use Rattle.timers.specs.declared.Reply.{Reply}
+use Rattle.timers.specs.declared.Reply.TheVariants as R
+use Rattle.timers.specs.Values.{reports_in}
+use Rattle.host.specs.Numbers.{reported_in, word_bytes}
+use Rattle.host.specs.Seen.{count_or}
+use Rattle.digits.specs.Rows.{blocks}
+use Rattle.timers.specs.Calls.{said}
+use Rattle.host.proofs.Calling.{bytes}
+use Rattle.host.proofs.Turning.{quiet, ran_within, turned}
 use Rattle.host.proofs.nurberosh_turn.Goals as goal
+use Rattle.host.proofs.nurberosh_turn.Goals.{in_default-via-in-Ok+in-Added-1, in_default-via-in-Err-1}
 
-pub returns-in-Refused : goal.returns-in-Refused
-returns-in-Refused c =
+pub returns-in_default : goal.returns-in_default
+unfolding word_bytes blocks
+returns-in_default c =
     let a = c.args in
-    turn_refused a.image.now a.reading a.reports.now c.read-got.result c.read-got.ensures c.in-Refused.why c.in-Refused.is
-    c.status.ensures
+    let r = c.turn-answer.result in
+    let z : (n p : ℕ) → r ≡ Ok (R.Ran n p) → ⊥ =
+    λ n p e. elim c.in_default.branch [ in_default-via-in-Ok+in-Added-1 w ↦ search rules | in_default-via-in-Err-1 w ↦ search rules ]
+    in
+    let q = quiet r a.reported.now z in
+    turned a.image.now a.reading a.reports.now (bytes (λ j. search rules)) r c.min-room.ensures c.turn-answer.ensures
+    (ap (λ (n : ℕ). reported_in a.reports.now n c.turn-answer.new.list) q.1) q.0 c.status.ensures
 
-pub returns-in_default-y : goal.returns-in_default-y
-returns-in_default-y c =
+pub slice_bounds-put_words-end : goal.slice_bounds-put_words-end
+slice_bounds-put_words-end c =
     let a = c.args in
-    quiet a.image.now a.reading a.reports.now c.read-got.result c.read-got.ensures
-    (record { small = λ j. let f : Fits w8 (get_or c.args.image.now j 0) = search rules in omega (arith, f.fits) }) c.turn-a.result _ _ c.in_default.is c.turn-a.ensures
-    (ap (λ (x : ℕ). take x (replicate cap 0)) c.least-room.ensures) c.ended.ensures
-    a.reported.now (not_ran c.turn-a.result.reply a.reported.now c.in_default-y.not-Ran)
-
-pub put_words-requires-clause-n_in_bounds : goal.put_words-requires-clause-n_in_bounds
-put_words-requires-clause-n_in_bounds c = let a = c.args in
-    let s : Bytes a.image.now = record { small = λ j. let f : Fits w8 (get_or c.args.image.now j 0) = search rules in omega (arith, f.fits) } in
-    let m = c.least-room.result in ran_within a.image.now a.reading a.reports.now c.read-got.result c.read-got.ensures s c.turn-a.result _ _ c.in_default.is
-    c.turn-a.ensures c.in-Ran.n c.in-Ran.popped (drop m (replicate cap 0)) c.in-Ran.is
-
-pub put_words-requires-clause-n_in_bounds_2 : goal.put_words-requires-clause-n_in_bounds_2
-put_words-requires-clause-n_in_bounds_2 c = let a = c.args in
-    let s : Bytes a.image.now = record { small = λ j. let f : Fits w8 (get_or c.args.image.now j 0) = search rules in omega (arith, f.fits) } in
-    let m = c.least-room.result in ran_room a.image.now a.reading a.reports.now c.read-got.result c.read-got.ensures s c.turn-a.result _ _ c.in_default.is
-    c.turn-a.ensures c.in-Ran.n c.in-Ran.popped m c.in-Ran.is refl c.least-room.ensures
+    let r = c.turn-answer.result in
+    let z : r ≡ Ok (R.Ran c.in-Ok-Ran.n c.in-Ok-Ran.field-0-1) = search rules in
+    let w = ran_within a.image.now a.reading a.reports.now (bytes (λ j. search rules)) r c.min-room.ensures c.turn-answer.ensures
+    c.in-Ok-Ran.n c.in-Ok-Ran.field-0-1 z
+    in
+    omega (arith, w.0, length-take {A = ℕ})
 
 pub returns : goal.returns
+unfolding word_bytes
 returns c =
     let a = c.args in
-    ran a.image.now a.reading a.reports.now c.read-got.result c.read-got.ensures
-    (record { small = λ j. let f : Fits w8 (get_or c.args.image.now j 0) = search rules in omega (arith, f.fits) }) c.turn-a.result _ _ c.in_default.is c.turn-a.ensures
-    (ap (λ (x : ℕ). take x (replicate cap 0)) c.least-room.ensures) c.ended-2.ensures
-    c.in-Ran.n c.in-Ran.popped a.reported.now (drop c.least-room.result (replicate cap 0)) _ c.in-Ran.is c.put_words.ensures
+    let r = c.turn-answer.result in
+    let z : r ≡ Ok (R.Ran c.in-Ok-Ran.n c.in-Ok-Ran.field-0-1) = search rules in
+    turned a.image.now a.reading a.reports.now (bytes (λ j. search rules)) r c.min-room.ensures c.turn-answer.ensures
+    (c.put_words.ensures ∙ ap (λ (x : Result Reply Refusal). reported_in a.reports.now (reports_in (said x)) c.turn-answer.new.list) (sym z))
+    (ap (λ (x : Result Reply Refusal). count_or a.reported.now (said x)) (sym z)) c.status-2.ensures
