@@ -1,16 +1,16 @@
 -- What the line of a record tells: the call's operation, what the call answered, and the next wake after it.
 -- Assumes nothing.
-use Rattle.std.proofs.Math.Option.{Option, none, some}
-use Rattle.std.specs.Prelude.{List, ℕ}
+use Rattle.std.proofs.Math.Option.{Option, none}
+use Rattle.std.specs.Prelude as Std
+use Rattle.std.specs.Prelude.{List, ℕ, Result, Ok, Err}
+use Rattle.refusals.specs.declared.Refusal.{Refusal}
+use Rattle.refusals.specs.declared.outcome.Outcome as Code
 use Rattle.refusals.specs.Answer.{Answer, accepted, refused, unsound, refuse, Nothing, Outcome}
 use Rattle.state.specs.declared.Set.{Set}
 use Rattle.timers.specs.declared.Call.{Call}
 use Rattle.timers.specs.declared.Call.TheVariants as C
-use Rattle.timers.specs.Calls.{Value, nothing, handle, counts, wake, polled, time, Lent, lent, step, next_wake_of, said}
-use Rattle.records.specs.declared.Wake.{Wake}
-use Rattle.records.specs.declared.Wake.TheVariants as W
-use Rattle.records.specs.declared.Line.{Line}
-use Rattle.records.specs.declared.Line.TheVariants as L
+use Rattle.timers.specs.Calls.{Value, nothing, handle, counts, wake, polled, time, Lent, lent, step, next_wake_of, wake_of, said}
+use Rattle.records.specs.declared.Made.{Made}
 use Rattle.records.specs.declared.Answered as A
 use Rattle.records.specs.Records.{decode_of}
 
@@ -82,13 +82,15 @@ unfoldable pub replay_of : Set → List ℕ → List ℕ → Answered
 replay_of s bytes l = answer_by s (decode_of bytes) l
 
 -- what the code says of a wake and of a line, and what it answers with the lent list as it is then
-abbrev pub said_wake : Wake → Option ℕ
-said_wake (W.At t) = some t
-said_wake W.Nothing = none
+abbrev pub said_wake : Std.Option ℕ → Option ℕ
+said_wake = wake_of
 
-abbrev pub said_line : Line → Told
-said_line (L.Unread r) = unread (refuse r)
-said_line (L.Made o r w) = made o (said r) (said_wake w)
+abbrev pub said_line : Result Made Refusal → Told
+said_line (Ok m) = made m.operation (said m.reply) (said_wake m.wake)
+said_line (Err r) = unread (refuse r)
 
 abbrev pub told_by : A.Answered → List ℕ → Answered
-told_by r l = record { state = lent r.set l; told = said_line r.line }
+told_by r l = record { state = lent r.set l; told = said_line (Ok r.made) }
+
+abbrev pub replayed_by : Code.Outcome Set Made → List ℕ → Answered
+replayed_by r l = record { state = lent r.state l; told = said_line r.answer }

@@ -1,14 +1,14 @@
 -- How a record of 14 bytes is read: its bits as one number, the fields of that number, and the call that they make.
 -- Assumes nothing.
-use Rattle.std.specs.Prelude.{Bool, true, false, ◌&&◌, List, [], ◌∷◌, ℕ, zero, suc, ◌+◌, ◌*◌, ◌/◌, ◌%◌, ◌^◌, eqb, get_or}
+use Rattle.std.specs.Prelude.{Bool, true, false, ◌&&◌, List, [], ◌∷◌, ℕ, zero, suc, ◌+◌, ◌*◌, ◌/◌, ◌%◌, ◌^◌, eqb, get_or, Result}
+use Rattle.refusals.specs.declared.Refusal.{Refusal}
 use Rattle.refusals.specs.declared.Refusal.TheVariants.{BadRecord}
 use Rattle.refusals.specs.Answer.{Answer, accepted, refuse}
+use Rattle.refusals.specs.Outcomes.{said_by}
 use Rattle.state.specs.declared.Handle.{Handle}
 use Rattle.timers.specs.declared.Call.{Call}
 use Rattle.timers.specs.declared.Call.TheVariants as C
 use Rattle.records.specs.declared.fields.Fields.{Fields}
-use Rattle.records.specs.declared.Decoded.{Decoded}
-use Rattle.records.specs.declared.Decoded.TheVariants as D
 
 -- the first k bytes as one number, the most significant first
 abbrev pub joined : ℕ → List ℕ → ℕ
@@ -64,6 +64,5 @@ unfoldable pub decode_of : List ℕ → Answer Call
 decode_of bytes = call_of (fields_of bytes)
 
 -- what the code says of it
-abbrev pub said_decoded : Decoded → Answer Call
-said_decoded (D.Call c) = accepted c
-said_decoded (D.Refused r) = refuse r
+abbrev pub said_decoded : Result Call Refusal → Answer Call
+said_decoded = said_by (λ (c : Call). c)

@@ -11,48 +11,34 @@ mod text;
 ghost use Rattle.records.specs.Promises.{Decodes, Answers, Replays, Writes, Operates, WakesIn, WakesAfter};
 
 use refusals::Refusal;
+use refusals::outcome::Outcome;
 use state::Set;
+use text::Pen;
 use timers::{Call, Reply};
 
 // No line is longer: `room` of specs/Lines.antt.
 pub const LINE: usize = 67 + heap::CAP * 22;
 
-// The call that a record makes, or why it makes none.
+// What the line of a call tells: its operation, what it answered, and the next wake after an accepted advance or turn.
 #[derive(Clone, Copy)]
-pub enum Decoded {
-    Call(Call),
-    Refused(Refusal),
+pub struct Made {
+    pub operation: u8,
+    pub reply: Result<Reply, Refusal>,
+    pub wake: Option<u64>,
 }
 
-// A next wake, or none.
-#[derive(Clone, Copy)]
-pub enum Wake {
-    At(u64),
-    Nothing,
-}
+// What the line of a record tells: its call, or why it makes none.
+pub type Line = Result<Made, Refusal>;
 
-// What the line of a record tells.
-#[derive(Clone, Copy)]
-pub enum Line {
-    // why the record makes no call
-    Unread(Refusal),
-    // the call's operation, what it answered, and the next wake after an accepted advance or turn
-    Made {
-        operation: u8,
-        reply: Reply,
-        wake: Wake,
-    },
-}
-
-// The set after a record, and what its line tells.
+// The set after a call, and what the call's line tells.
 #[derive(Clone, Copy)]
 pub struct Answered {
     pub set: Set,
-    pub line: Line,
+    pub made: Made,
 }
 
-// The call that a record makes.
-pub fn decode(bytes: [u8; 14]) -> Decoded
+// The call that a record makes, or why it makes none.
+pub fn decode(bytes: [u8; 14]) -> Result<Call, Refusal>
     ensures { Decodes bytes result }
 {
     fields::call_of(fields::parted(bytes))
@@ -62,31 +48,28 @@ pub fn decode(bytes: [u8; 14]) -> Decoded
 pub fn answer(s: Set, call: Call, list: &mut [u64]) -> Answered
     ensures { Answers s call list.old result list.new }
 {
-    let operation = operation(call);
     let a = timers::perform(s, call, list);
-    let g = a.set;
-    let reply = a.reply;
-    let wake = wake_after(g, reply);
+    let wake = wake_after(a.state, a.answer);
     Answered {
-        set: g,
-        line: Line::Made {
-            operation,
-            reply,
+        set: a.state,
+        made: Made {
+            operation: operation(call),
+            reply: a.answer,
             wake,
         },
     }
 }
 
 // Decodes a record and makes its call; a record that is refused changes nothing.
-pub fn replay(s: Set, bytes: [u8; 14], list: &mut [u64]) -> Answered
+pub fn replay(s: Set, bytes: [u8; 14], list: &mut [u64]) -> Outcome<Set, Made>
     ensures { Replays s bytes list.old result list.new }
 {
     match decode(bytes) {
-        Decoded::Call(call) => answer(s, call, list),
-        Decoded::Refused(why) => Answered {
-            set: s,
-            line: Line::Unread(why),
-        },
+        Ok(call) => {
+            let a = answer(s, call, list);
+            Outcome::given(a.set, a.made)
+        }
+        Err(why) => Outcome::kept(s, why),
     }
 }
 
@@ -95,7 +78,9 @@ pub fn replay(s: Set, bytes: [u8; 14], list: &mut [u64]) -> Answered
 pub fn write_line(line: Line, list: &[u64; heap::CAP], out: &mut [u8; LINE]) -> usize
     ensures { Writes line list.now out.old result out.new }
 {
-    text::put_line(out, line, list)
+    let mut pen = Pen { out, at: 0 };
+    pen.line(line, list);
+    pen.at
 }
 
 // The operation of a call; that of a tick or an interval reset is above those that a record can name.
@@ -103,52 +88,36 @@ fn operation(call: Call) -> u8
     ensures { Operates call result }
 {
     match call {
-        Call::Add { due: _ } => 0,
-        Call::Reset { handle: _, due: _ } => 1,
-        Call::Cancel { handle: _ } => 2,
+        Call::Add { .. } => 0,
+        Call::Reset { .. } => 1,
+        Call::Cancel { .. } => 2,
         Call::Drain => 3,
-        Call::Advance { reading: _ } => 4,
-        Call::Turn { reading: _ } => 5,
+        Call::Advance { .. } => 4,
+        Call::Turn { .. } => 5,
         Call::NextWake => 6,
-        Call::Poll { handle: _ } => 7,
+        Call::Poll { .. } => 7,
         Call::Close => 8,
-        Call::Tick {
-            handle: _,
-            policy: _,
-            period: _,
-            reading: _,
-        } => 16,
-        Call::Restart {
-            handle: _,
-            period: _,
-            reading: _,
-        } => 17,
+        Call::Tick { .. } => 16,
+        Call::Restart { .. } => 17,
     }
 }
 
 // The next wake after a call that answered this: asked where the call is an accepted advance or turn.
-fn wake_after(s: Set, reply: Reply) -> Wake
+fn wake_after(s: Set, reply: Result<Reply, Refusal>) -> Option<u64>
     ensures { WakesAfter s reply result }
 {
     match reply {
-        Reply::Ran {
-            reported: _,
-            popped: _,
-        } => {
-            let a = timers::next_wake(s);
-            let r = a.reply;
-            wake_in(r)
-        }
-        _ => Wake::Nothing,
+        Ok(Reply::Ran { .. }) => wake_in(timers::next_wake(s).answer),
+        _ => None,
     }
 }
 
 // The wake that a reply names.
-fn wake_in(reply: Reply) -> Wake
+fn wake_in(reply: Result<Reply, Refusal>) -> Option<u64>
     ensures { WakesIn reply result }
 {
     match reply {
-        Reply::WakeAt(t) => Wake::At(t),
-        _ => Wake::Nothing,
+        Ok(Reply::Wake(wake)) => wake,
+        _ => None,
     }
 }

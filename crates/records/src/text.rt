@@ -1,178 +1,176 @@
-// The parts of a line, put into lent bytes one behind the other: each function puts one part at an offset, leaves the other bytes
-// as they were, and answers the offset behind the part.
+// The text of a line, written into lent bytes: each function puts one part behind what is written so far, and leaves the other bytes
+// as they were.
 ghost use Rattle.std.specs.Prelude.{◌+◌, ◌*◌, ◌≤◌, ◌<◌, length};
 ghost use Rattle.heap.specs.Capacity.{cap};
 ghost use Rattle.records.specs.Lines.{decimal, number_room, handle_room, report_room, answer_room, room};
-ghost use Rattle.records.specs.Puts.{PutsLine, PutsAnswer, PutsReport, PutsHandles, PutsHandle, PutsWake, PutsNumber, PutsDigits, PutsTwo, PutsOne, Least, Polls};
+ghost use Rattle.records.specs.Puts.{PutsLine, PutsAnswer, PutsValues, PutsReport, PutsHandles, PutsHandle, PutsWake, PutsRefusal, PutsNumber, PutsDigits, PutsTwo, PutsOne, Polls};
 
-use crate::{Line, Wake};
-use state::Named;
+use crate::{Line, Made};
+use refusals::Refusal;
+use state::Handle;
 use timers::Reply;
 use word::Polled;
 
-// Puts a whole line from the start on.
-pub fn put_line(out: &mut [u8], line: Line, list: &[u64]) -> usize
-    requires list_len_bound { length list.now ≤ cap }
-    requires room_in_bounds { room ≤ length out.old }
-    ensures { PutsLine line list.now out.old out.new result }
-{
-    match line {
-        Line::Unread(why) => {
-            let a = put(out, 0, b'?');
-            let b = put_number(out, a, refusals::number(why) as u64);
-            put(out, b, b'\n')
+// The lent bytes, and how many of them are written.
+#[derive(Drop)]
+pub struct Pen<'a> {
+    pub out: &'a mut [u8],
+    pub at: usize,
+}
+
+impl Pen<'_> {
+    // Puts a whole line.
+    pub fn line(&mut self, line: Line, list: &[u64])
+        requires list_len_bound { length list.now ≤ cap }
+        requires room_in_bounds { self.old.at + room ≤ length self.old.out.now }
+        ensures { PutsLine line list.now self.old self.new }
+    {
+        match line {
+            Ok(
+                Made {
+                    operation,
+                    reply,
+                    wake,
+                },
+            ) => {
+                self.digits(operation as u64);
+                self.answer(reply, wake, list);
+            }
+            Err(why) => {
+                self.byte(b'?');
+                self.refusal(why);
+            }
         }
-        Line::Made {
-            operation,
-            reply,
-            wake,
-        } => {
-            let a = put_digits(out, 0, operation as u64);
-            let b = put_answer(out, a, reply, wake, list);
-            put(out, b, b'\n')
+        self.byte(b'\n')
+    }
+
+    // Puts what a call answered: 0 and the values, or the refusal.
+    fn answer(&mut self, reply: Result<Reply, Refusal>, wake: Option<u64>, list: &[u64])
+        requires list_len_bound { length list.now ≤ cap }
+        requires answer_room_in_bounds { self.old.at + answer_room ≤ length self.old.out.now }
+        ensures { PutsAnswer reply wake list.now self.old self.new }
+    {
+        match reply {
+            Ok(values) => {
+                self.two(b' ', b'0');
+                self.values(values, wake, list)
+            }
+            Err(why) => self.refusal(why),
         }
     }
-}
 
-// Puts what a call answered: 0 and the values, or the refusal.
-fn put_answer(out: &mut [u8], at: usize, reply: Reply, wake: Wake, list: &[u64]) -> usize
-    requires list_len_bound { length list.now ≤ cap }
-    requires answer_room_in_bounds { at + answer_room ≤ length out.old }
-    ensures { PutsAnswer reply wake list.now out.old at out.new result }
-{
-    match reply {
-        Reply::Added(handle) => {
-            let a = put_two(out, at, b' ', b'0');
-            let b = put_number(out, a, handle.place.0 as u64);
-            put_number(out, b, handle.uses as u64)
-        }
-        Reply::Done => put_two(out, at, b' ', b'0'),
-        Reply::Ran {
-            reported,
-            popped: _,
-        } => {
-            let count = least(reported, list.len());
-            let a = put_two(out, at, b' ', b'0');
-            put_report(out, a, list, count, wake)
-        }
-        Reply::WakeAt(t) => {
-            let a = put_two(out, at, b' ', b'0');
-            put_number(out, a, t)
-        }
-        Reply::NoWake => {
-            let a = put_two(out, at, b' ', b'0');
-            put_two(out, a, b' ', b'-')
-        }
-        Reply::Found(p) => {
-            let a = put_two(out, at, b' ', b'0');
-            put_number(out, a, polled(p))
-        }
-        Reply::Ticked(t) => {
-            let a = put_two(out, at, b' ', b'0');
-            put_number(out, a, t)
-        }
-        Reply::Refused(why) => put_number(out, at, refusals::number(why) as u64),
-    }
-}
-
-// Puts what an advance or a turn reported: how many words of the list, their handles, and the next wake.
-fn put_report(out: &mut [u8], at: usize, list: &[u64], count: usize, wake: Wake) -> usize
-    requires count_in_bounds { count ≤ length list.now }
-    requires count_in_bounds_2 { at + report_room count ≤ length out.old }
-    ensures { PutsReport list.now count wake out.old at out.new result }
-{
-    let a = put_number(out, at, count as u64);
-    let b = put_handles(out, a, list, count);
-    let c = put_two(out, b, b' ', b'w');
-    put_wake(out, c, wake)
-}
-
-// Puts a blank and a next wake.
-fn put_wake(out: &mut [u8], at: usize, wake: Wake) -> usize
-    requires { at + number_room ≤ length out.old }
-    ensures { PutsWake wake out.old at out.new result }
-{
-    match wake {
-        Wake::At(t) => put_number(out, at, t),
-        Wake::Nothing => put_two(out, at, b' ', b'-'),
-    }
-}
-
-// Puts whom the first words of a list name, each behind a blank.
-fn put_handles(out: &mut [u8], at: usize, list: &[u64], count: usize) -> usize
-    requires count_in_bounds { count ≤ length list.now }
-    requires handle_room_in_bounds { at + count * handle_room ≤ length out.old }
-    ensures { PutsHandles list.now count out.old at out.new result }
-{
-    let mut next = at;
-    let mut i: usize = 0;
-    while i < count {
-        next = put_handle(out, next, list[i]);
-        i += 1;
-    }
-    next
-}
-
-// Puts a blank and the handle that a word names, or a question mark where it names none.
-fn put_handle(out: &mut [u8], at: usize, word: u64) -> usize
-    requires { at + handle_room ≤ length out.old }
-    ensures { PutsHandle word out.old at out.new result }
-{
-    match state::handle_of(word) {
-        Named::Nobody => put_two(out, at, b' ', b'?'),
-        Named::Handle(handle) => {
-            let a = put(out, at, b' ');
-            let b = put_digits(out, a, handle.place.0 as u64);
-            let c = put(out, b, b':');
-            put_digits(out, c, handle.uses as u64)
+    // Puts the values of an accepted call.
+    fn values(&mut self, values: Reply, wake: Option<u64>, list: &[u64])
+        requires list_len_bound { length list.now ≤ cap }
+        requires report_room_in_bounds { self.old.at + report_room cap ≤ length self.old.out.now }
+        ensures { PutsValues values wake list.now self.old self.new }
+    {
+        match values {
+            Reply::Added(handle) => {
+                self.number(handle.place.0 as u64);
+                self.number(handle.uses as u64)
+            }
+            Reply::Done => {}
+            Reply::Ran { reported, .. } => self.report(&list[..reported.min(list.len())], wake),
+            Reply::Wake(next) => self.wake(next),
+            Reply::Found(p) => self.number(polled(p)),
+            Reply::Ticked(t) => self.number(t),
         }
     }
-}
 
-// Puts a blank and a number.
-fn put_number(out: &mut [u8], at: usize, n: u64) -> usize
-    requires { at + number_room ≤ length out.old }
-    ensures { PutsNumber n out.old at out.new result }
-{
-    let a = put(out, at, b' ');
-    put_digits(out, a, n)
-}
-
-// Puts a number in decimal, where there is room for its digits.
-fn put_digits(out: &mut [u8], at: usize, n: u64) -> usize
-    requires { at + length (decimal n) ≤ length out.old }
-    ensures { PutsDigits n out.old at out.new result }
-{
-    if n < 10 {
-        return put(out, at, b'0' + (n as u8));
+    // Puts what an advance or a turn reported: how many words, whom they name, and the next wake.
+    fn report(&mut self, words: &[u64], wake: Option<u64>)
+        requires { self.old.at + report_room (length words.now) ≤ length self.old.out.now }
+        ensures { PutsReport words.now wake self.old self.new }
+    {
+        self.number(words.len() as u64);
+        self.handles(words);
+        self.two(b' ', b'w');
+        self.wake(wake)
     }
-    let next = put_digits(out, at, n / 10);
-    put(out, next, b'0' + ((n % 10) as u8))
-}
 
-// Puts two bytes.
-fn put_two(out: &mut [u8], at: usize, a: u8, b: u8) -> usize
-    requires { at + 2 ≤ length out.old }
-    ensures { PutsTwo a b out.old at out.new result }
-{
-    let next = put(out, at, a);
-    put(out, next, b)
-}
+    // Puts a blank and a next wake.
+    fn wake(&mut self, wake: Option<u64>)
+        requires { self.old.at + number_room ≤ length self.old.out.now }
+        ensures { PutsWake wake self.old self.new }
+    {
+        match wake {
+            Some(t) => self.number(t),
+            None => self.two(b' ', b'-'),
+        }
+    }
 
-// Puts one byte.
-fn put(out: &mut [u8], at: usize, b: u8) -> usize
-    requires { at < length out.old }
-    ensures { PutsOne b out.old at out.new result }
-{
-    out[at] = b;
-    at + 1
-}
+    // Puts whom words name, each behind a blank.
+    fn handles(&mut self, words: &[u64])
+        requires { self.old.at + length words.now * handle_room ≤ length self.old.out.now }
+        ensures { PutsHandles words.now self.old self.new }
+    {
+        for word in words {
+            self.handle(*word);
+        }
+    }
 
-// The smaller of two numbers.
-fn least(a: usize, b: usize) -> usize
-    ensures { Least a b result }
-{
-    if a < b { a } else { b }
+    // Puts a blank and the handle that a word names, or a question mark where it names none.
+    fn handle(&mut self, word: u64)
+        requires { self.old.at + handle_room ≤ length self.old.out.now }
+        ensures { PutsHandle word self.old self.new }
+    {
+        match state::handle_of(word) {
+            None => self.two(b' ', b'?'),
+            Some(Handle { place, uses }) => {
+                self.number(place.0 as u64);
+                self.byte(b':');
+                self.digits(uses as u64)
+            }
+        }
+    }
+
+    // Puts a blank and the number of a refusal.
+    fn refusal(&mut self, why: Refusal)
+        requires { self.old.at + number_room ≤ length self.old.out.now }
+        ensures { PutsRefusal why self.old self.new }
+    {
+        self.number(refusals::number(why) as u64)
+    }
+
+    // Puts a blank and a number.
+    fn number(&mut self, n: u64)
+        requires { self.old.at + number_room ≤ length self.old.out.now }
+        ensures { PutsNumber n self.old self.new }
+    {
+        self.byte(b' ');
+        self.digits(n)
+    }
+
+    // Puts a number in decimal, where there is room for its digits.
+    fn digits(&mut self, n: u64)
+        requires { self.old.at + length (decimal n) ≤ length self.old.out.now }
+        ensures { PutsDigits n self.old self.new }
+    {
+        if n < 10 {
+            return self.byte(b'0' + n as u8);
+        }
+        self.digits(n / 10);
+        self.byte(b'0' + (n % 10) as u8)
+    }
+
+    // Puts two bytes.
+    fn two(&mut self, a: u8, b: u8)
+        requires { self.old.at + 2 ≤ length self.old.out.now }
+        ensures { PutsTwo a b self.old self.new }
+    {
+        self.byte(a);
+        self.byte(b)
+    }
+
+    // Puts one byte.
+    fn byte(&mut self, b: u8)
+        requires { self.old.at < length self.old.out.now }
+        ensures { PutsOne b self.old self.new }
+    {
+        self.out[self.at] = b;
+        self.at += 1;
+    }
 }
 
 // The number of what a poll finds.

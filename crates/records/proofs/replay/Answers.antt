@@ -4,12 +4,14 @@ use mathlib.Core.Path.{◌≡◌, refl, ap, ◌∙◌}
 use mathlib.Core.List.{List}
 use Prim.Native.Nat.{ℕ}
 use Rattle.refusals.specs.declared.Refusal.{Refusal}
+use Rattle.refusals.specs.declared.outcome.Outcome as Code
 use Rattle.refusals.specs.Answer.{Answer, Nothing, refuse}
 use Rattle.refusals.proofs.Refusing.{any_refusal}
 use Rattle.state.specs.declared.Set.{Set}
 use Rattle.timers.specs.declared.Call.{Call}
 use Rattle.timers.specs.Calls.{lent}
-use Rattle.records.specs.Answers.{Answered, unread, answer_by, replay_of}
+use Rattle.records.specs.declared.Made.{Made}
+use Rattle.records.specs.Answers.{Answered, unread, answer_by, replay_of, replayed_by}
 use Rattle.records.proofs.replay.Goals as goal
 
 -- a record that does not decode changes nothing and says why
@@ -17,18 +19,17 @@ unread_why : (s : Set) (l : List ℕ) (r : Refusal) → ◌≡◌ {A = Answered}
 unread_why s l r =
     any_refusal {A = Nothing} (λ a. record { state = lent s l; told = unread a }) (λ a. answer_by s a l) (λ n. refl) (λ x. refl) r
 
-pub returns-in-Call : goal.returns-in-Call
+pub returns-in-Ok : goal.returns-in-Ok
 unfolding replay_of
-returns-in-Call c =
+returns-in-Ok c =
     let a = c.args in
-    c.answer.ensures
-    ∙ ap (λ (x : Answer Call). answer_by a.s x a.list.now)
-    (rw c.in-Call.is at c.decode.ensures)
+    ap (λ (o : Code.Outcome Set Made). replayed_by o c.answer-a.new.list) c.given.ensures ∙ c.answer-a.ensures
+    ∙ ap (λ (x : Answer Call). answer_by a.s x a.list.now) c.in-Ok.ensures
 
-pub returns-in-Refused : goal.returns-in-Refused
+pub returns-in-Err : goal.returns-in-Err
 unfolding replay_of
-returns-in-Refused c =
+returns-in-Err c =
     let a = c.args in
-    unread_why a.s a.list.now c.in-Refused.why
-    ∙ ap (λ (x : Answer Call). answer_by a.s x a.list.now)
-    (rw c.in-Refused.is at c.decode.ensures)
+    let l = a.list.now in
+    ap (λ (o : Code.Outcome Set Made). replayed_by o l) c.kept.ensures ∙ unread_why a.s l c.in-Err.why
+    ∙ ap (λ (x : Answer Call). answer_by a.s x l) c.in-Err.ensures

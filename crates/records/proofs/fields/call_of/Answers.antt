@@ -1,23 +1,19 @@
 -- Each operation has its row of the table; past the table a record is refused.
 -- Assumes nothing.
-use mathlib.Core.Path.{◌≡◌, sym}
-use Prim.Native.Nat.{ℕ, ◌+◌, ◌≤◌, zero-le}
+use mathlib.Core.Path.{refl, sym}
+use Prim.Native.Nat.{◌≤◌}
 use native.Mathlib.Omega.{arith}
 use lib.ListN.{get_or-eq_default}
-use Rattle.records.specs.Records.{table, call_of}
+use Rattle.records.specs.Records.{table, provided, call_of}
 use Rattle.records.proofs.fields.call_of.Goals as goal
-
--- a number from k on that is not k is from k + 1 on
-above : (k : ℕ) {n : ℕ} → k ≤ n → (n ≡ k → ⊥) → k + 1 ≤ n
-above k h n = omega arith
 
 pub returns-in-0 : goal.returns-in-0
 unfolding call_of
 returns-in-0 c = rw (c.in-0.is, sym c.no_handle.ensures) c.provided.ensures
 
 pub returns-in-1 : goal.returns-in-1
-unfolding call_of
-returns-in-1 c = rw c.in-1.is c.provided-in-1.ensures
+unfolding call_of provided
+returns-in-1 c = rw c.in-1.is refl
 
 pub returns-in-2 : goal.returns-in-2
 unfolding call_of
@@ -50,10 +46,5 @@ returns-in-8 c = rw (c.in-8.is, sym c.bare-in-8.ensures) c.provided-in-8.ensures
 pub returns-in_default : goal.returns-in_default
 unfolding call_of
 returns-in_default c =
-    let r = c.in_default.in_default-own.rest in
-    let h : 9 ≤ c.args.f.operation =
-    above 8 (above 7 (above 6 (above 5 (above 4 (above 3 (above 2 (above 1 (above 0 zero-le
-    r.0.0.0.0.0.0.0.0.1) r.0.0.0.0.0.0.0.1) r.0.0.0.0.0.0.1) r.0.0.0.0.0.1) r.0.0.0.0.1) r.0.0.0.1)
-    r.0.0.1) r.0.1) r.1
-    in
+    let h : 9 ≤ c.args.f.operation = omega arith in
     sym (get_or-eq_default (table c.args.f) _ h)

@@ -1,6 +1,0 @@
--- The number grows smaller.
--- Assumes nothing.
-use Rattle.records.proofs.text.+put_digits.Given as goal
-
-abbrev pub decreases-put_digits : goal.decreases-put_digits
-decreases-put_digits l = l.n
