@@ -1,11 +1,11 @@
 -- No public function of this crate has a second answer.
 -- Assumes nothing.
 use mathlib.Core.Path.{◌≡◌, refl}
-use Rattle.std.specs.Prelude.{Some, None}
-use Rattle.std.specs.Prelude as Code
 use mathlib.Core.Option.{Option, none, some}
 use mathlib.Core.List.{List}
 use Prim.Native.Nat.{ℕ}
+use Rattle.std.specs.Prelude.{Some, None}
+use Rattle.std.specs.Prelude as Code
 use Rattle.theory.specs.Promise.{NoSecond, TellsApart}
 use Rattle.theory.proofs.Promise.{by_rule, plain_apart, undone_apart}
 use Rattle.heap.specs.declared.Place.{Place}

@@ -4,12 +4,15 @@ use Rattle.std.specs.Prelude.{◌≡◌, false, List, ℕ, ℤ, Option, Result, 
 use Rattle.refusals.specs.declared.Refusal.{Refusal}
 use Rattle.refusals.specs.declared.outcome.Outcome.{Outcome}
 use Rattle.refusals.specs.Times.{said_left}
+use Rattle.word.specs.Rules as Word
 use Rattle.interval.specs.declared.Policy.{Policy}
+use Rattle.state.specs.declared.Life.{Life}
+use Rattle.state.specs.declared.Life.TheVariants.{Live}
 use Rattle.state.specs.declared.Set.{Set}
 use Rattle.state.specs.declared.Handle.{Handle}
 use Rattle.timers.specs.declared.Call.{Call}
 use Rattle.timers.specs.declared.Reply.{Reply}
-use Rattle.timers.specs.Calls.{Timing, said_guard, guard_of, open_of, said_door, door_of, living, live_at, reset_to, add_of, reset_of, cancel_of, drain_of, advance_of, turn_of, next_wake_of, poll_of, close_of, tick_at, restart_at, step, told, told_with}
+use Rattle.timers.specs.Calls.{Timing, said_guard, guard_of, open_of, said_door, door_of, living, live_at, add_of, reset_of, cancel_of, drain_of, advance_of, turn_of, next_wake_of, poll_of, close_of, tick_at, restart_at, step, told, told_with}
 use Rattle.timers.specs.Left.{time_left_of, least_left_of, said_least}
 
 abbrev pub Adds : Set → ℕ → Outcome Set Reply → Type 0
@@ -72,5 +75,5 @@ Admits s h r = said_door r ≡ door_of false s h
 abbrev pub Finds : Set → Handle → Result Timing Refusal → Type 0
 Finds s h r = said_door r ≡ living (live_at s h)
 
-abbrev pub ResetsTo : Set → Handle → ℕ → ℕ → Set → Type 0
-ResetsTo s h w d r = r ≡ reset_to s h d (record { word = w; due = d })
+abbrev pub ResetsTo : Timing → ℕ → Life → Type 0
+ResetsTo t d r = r ≡ Live (Word.reset_of t.word) d

@@ -7,8 +7,6 @@
 pub mod left;
 
 ghost use Rattle.timers.specs.Promises.{Adds, Resets, Cancels, Drains, Advances, Turns, Wakes, Polls, Closes, Ticks, Restarts, Performs, Guards, Opens, Enters, Admits, Finds, ResetsTo};
-ghost use Rattle.std.specs.Prelude.{◌<◌};
-ghost use Rattle.heap.specs.Capacity.{cap};
 
 use interval::Policy;
 use moves::rings::Ran;
@@ -79,6 +77,18 @@ pub struct Timing {
     pub due: u64,
 }
 
+impl Timing {
+    // The timer's life once it is reset to a deadline: one generation on from its word.
+    fn reset_to(self, due: u64) -> Life
+        ensures { ResetsTo self due result }
+    {
+        Life::Live {
+            word: word::after_reset(self.word),
+            due,
+        }
+    }
+}
+
 // Every call begins here: whether it may be made on a set, or why not.
 fn guarded(s: Set) -> Result<(), Refusal>
     ensures { Guards s result }
@@ -134,33 +144,38 @@ pub fn add(s: Set, due: u64) -> Outcome<Set, Reply>
 pub fn reset(s: Set, handle: Handle, due: u64) -> Outcome<Set, Reply>
     ensures { Resets s handle due result }
 {
-    match entered(s, handle) {
-        Ok(t) => Outcome::given(reset_to(s, handle, t.word, due), Reply::Done),
-        Err(why) => Outcome::kept(s, why),
-    }
+    let t = match entered(s, handle) {
+        Ok(t) => t,
+        Err(why) => return Outcome::kept(s, why),
+    };
+    Outcome::given(
+        moves::list::touched(s, handle.place, t.reset_to(due)),
+        Reply::Done,
+    )
 }
 
 // Cancels a live timer: its handle is dead from now on.
 pub fn cancel(s: Set, handle: Handle) -> Outcome<Set, Reply>
     ensures { Cancels s handle result }
 {
-    match entered(s, handle) {
-        Ok(t) => Outcome::given(
-            moves::list::touched(s, handle.place, Life::Cancelled { word: t.word }),
-            Reply::Done,
-        ),
-        Err(why) => Outcome::kept(s, why),
-    }
+    let word = match entered(s, handle) {
+        Ok(t) => t.word,
+        Err(why) => return Outcome::kept(s, why),
+    };
+    Outcome::given(
+        moves::list::touched(s, handle.place, Life::Cancelled { word }),
+        Reply::Done,
+    )
 }
 
 // Makes every waiting update, the newest first.
 pub fn drain(s: Set) -> Outcome<Set, Reply>
     ensures { Drains s result }
 {
-    match opened(s) {
-        Ok(()) => Outcome::given(moves::updates::drained(s), Reply::Done),
-        Err(why) => Outcome::kept(s, why),
+    if let Err(why) = opened(s) {
+        return Outcome::kept(s, why);
     }
+    Outcome::given(moves::updates::drained(s), Reply::Done)
 }
 
 // Reports the timers whose entries are due at the reading, without a drain.
@@ -203,30 +218,31 @@ pub fn turn(s: Set, reading: u64, list: &mut [u64]) -> Outcome<Set, Reply>
 pub fn next_wake(s: Set) -> Outcome<Set, Reply>
     ensures { Wakes s result }
 {
-    match guarded(s) {
-        Ok(()) => Outcome::given(s, Reply::Wake(heap::peek_sound(s.heap).map(|e| e.at))),
-        Err(why) => Outcome::kept(s, why),
+    if let Err(why) = guarded(s) {
+        return Outcome::kept(s, why);
     }
+    Outcome::given(s, Reply::Wake(heap::peek_sound(s.heap).map(|e| e.at)))
 }
 
 // Whether a live timer has fired, is gone or is pending.
 pub fn poll(s: Set, handle: Handle) -> Outcome<Set, Reply>
     ensures { Polls s handle result }
 {
-    match met(s, handle) {
-        Ok(t) => Outcome::given(s, Reply::Found(word::poll(t.word))),
-        Err(why) => Outcome::kept(s, why),
-    }
+    let t = match met(s, handle) {
+        Ok(t) => t,
+        Err(why) => return Outcome::kept(s, why),
+    };
+    Outcome::given(s, Reply::Found(word::poll(t.word)))
 }
 
 // Closes the set: every timer that waits or has an entry is gone.
 pub fn close(s: Set) -> Outcome<Set, Reply>
     ensures { Closes s result }
 {
-    match opened(s) {
-        Ok(()) => Outcome::given(moves::shut::closed(s), Reply::Done),
-        Err(why) => Outcome::kept(s, why),
+    if let Err(why) = opened(s) {
+        return Outcome::kept(s, why);
     }
+    Outcome::given(moves::shut::closed(s), Reply::Done)
 }
 
 // A tick of an interval's timer that has fired: answers its deadline, and sets it to the next one.
@@ -246,23 +262,32 @@ pub fn tick(
     if !word::fired(t.word) {
         return Outcome::kept(s, Refusal::NotFired);
     }
-    match interval::next_deadline(policy, t.due, period, reading) {
-        Ok(next) => Outcome::given(reset_to(s, handle, t.word, next), Reply::Ticked(t.due)),
-        Err(why) => Outcome::kept(s, why),
-    }
+    let next = match interval::next_deadline(policy, t.due, period, reading) {
+        Ok(next) => next,
+        Err(why) => return Outcome::kept(s, why),
+    };
+    Outcome::given(
+        moves::list::touched(s, handle.place, t.reset_to(next)),
+        Reply::Ticked(t.due),
+    )
 }
 
 // Resets an interval's timer to a period after the reading, fired or not.
 pub fn restart(s: Set, handle: Handle, period: u64, reading: u64) -> Outcome<Set, Reply>
     ensures { Restarts s handle period reading result }
 {
-    match entered(s, handle) {
-        Ok(t) => match interval::restarted(period, reading) {
-            Ok(next) => Outcome::given(reset_to(s, handle, t.word, next), Reply::Done),
-            Err(why) => Outcome::kept(s, why),
-        },
-        Err(why) => Outcome::kept(s, why),
-    }
+    let t = match entered(s, handle) {
+        Ok(t) => t,
+        Err(why) => return Outcome::kept(s, why),
+    };
+    let next = match interval::restarted(period, reading) {
+        Ok(next) => next,
+        Err(why) => return Outcome::kept(s, why),
+    };
+    Outcome::given(
+        moves::list::touched(s, handle.place, t.reset_to(next)),
+        Reply::Done,
+    )
 }
 
 // Any call: its own function makes it.
@@ -306,13 +331,4 @@ fn named(s: Set, handle: Handle) -> Result<Timing, Refusal>
         Life::Live { word, due } if t.uses == handle.uses => Ok(Timing { word, due }),
         _ => Err(Refusal::DeadHandle),
     }
-}
-
-// The reset of a live timer with this word to a deadline.
-fn reset_to(s: Set, handle: Handle, word: u32, due: u64) -> Set
-    requires { handle.place.0 < cap }
-    ensures { ResetsTo s handle word due result }
-{
-    let word = word::after_reset(word);
-    moves::list::touched(s, handle.place, Life::Live { word, due })
 }

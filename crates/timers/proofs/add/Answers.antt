@@ -1,10 +1,10 @@
 -- The lowest free place, where there is one, is touched as a live timer's, and named with its use number.
 -- Assumes nothing.
-use native.Mathlib.Omega.{arith}
-use Rattle.timers.proofs.Guarding.{opened_lets}
 use mathlib.Core.Path.{sym, ap, ◌∙◌}
+use native.Mathlib.Omega.{arith}
 use Rattle.refusals.proofs.Refusing.{not_both}
 use Rattle.timers.specs.Calls.{open_of, guarded, added_at, add_of}
+use Rattle.timers.proofs.Guarding.{opened_lets}
 use Rattle.timers.proofs.Alive.{free_place}
 use Rattle.timers.proofs.add.Goals as goal
 

@@ -1,16 +1,16 @@
 -- A set that is let through is sound, so that its entries may be popped, and the list is long enough; else the call is refused and
 -- the list is as it was.
 -- Assumes nothing.
-use native.Mathlib.Omega.{arith}
-use Rattle.heap.specs.Capacity.{cap}
-use lib.ListN.{length}
-use borrow.Author.Tests.{le-leb}
 use mathlib.Core.Path.{sym, ap, ◌∙◌}
-use Rattle.refusals.proofs.Refusing.{not_both}
+use native.Mathlib.Omega.{arith}
+use borrow.Author.Tests.{le-leb}
 use borrow.Author.Rules.{rules}
+use lib.ListN.{length}
 use Rattle.theory.proofs.Stores.{unmapped}
-use Rattle.timers.proofs.Guarding.{opened_lets, opened_sound}
+use Rattle.refusals.proofs.Refusing.{not_both}
+use Rattle.heap.specs.Capacity.{cap}
 use Rattle.timers.specs.Calls.{open_of, guarded, lent, rang, advance_of}
+use Rattle.timers.proofs.Guarding.{opened_lets, opened_sound}
 use Rattle.timers.proofs.advance.Goals as goal
 
 pub returns-in-Err : goal.returns-in-Err

@@ -1,17 +1,17 @@
 -- A set that is let through has a sound heap, and the wake is its head's deadline; a closed set is asked as any other.
 -- Assumes nothing.
-use native.Mathlib.Omega.{arith}
-use Rattle.heap.specs.Calls.{said_peek}
-use Rattle.heap.specs.declared.Entry.{Entry}
-use Rattle.std.specs.Prelude.{Option, None, Some, Ok, MatchOption, IsSomeAnd}
-use Prim.Native.Nat.{ℕ}
 use mathlib.Core.Option.{some}
 use mathlib.Core.Path.{◌≡◌, sym, ap, ◌∙◌}
-use Rattle.refusals.proofs.Refusing.{not_both}
+use Prim.Native.Nat.{ℕ}
+use native.Mathlib.Omega.{arith}
 use borrow.Author.Rules.{rules}
+use Rattle.std.specs.Prelude.{Option, None, Some, Ok, MatchOption, IsSomeAnd}
 use Rattle.theory.proofs.Stores.{unmapped}
-use Rattle.timers.proofs.Guarding.{guarded_lets, guarded_sound}
+use Rattle.refusals.proofs.Refusing.{not_both}
+use Rattle.heap.specs.Calls.{said_peek}
+use Rattle.heap.specs.declared.Entry.{Entry}
 use Rattle.timers.specs.Calls.{gives, wake, wake_by, wake_of, guard_of, guarded, next_wake_of}
+use Rattle.timers.proofs.Guarding.{guarded_lets, guarded_sound}
 use Rattle.timers.proofs.next_wake.Goals as goal
 
 -- the wake is the head's deadline
@@ -22,15 +22,15 @@ woken q (Some x) None e = absurd e
 woken q (Some x) (Some t) e = ap some (q x t e)
 
 pub peek_sound-requires : goal.peek_sound-requires
-peek_sound-requires c = guarded_sound c.args.s (search (rules, unmapped)) (search (rules, unmapped)) c.in-Ok.ensures
+peek_sound-requires c = guarded_sound c.args.s (search (rules, unmapped)) (search (rules, unmapped)) c.in_default.ensures
 
-pub returns-in-Ok : goal.returns-in-Ok
+pub returns : goal.returns
 unfolding next_wake_of
-returns-in-Ok c =
+returns c =
     let s = c.args.s in
     rw c.given.ensures
     (ap (λ o. gives s (wake o)) (woken (λ e t q. search rules) c.peek_sound.result _ c.map.ensures.cases)
-    ∙ ap (λ a. gives s (wake (wake_by a))) c.peek_sound.ensures ∙ sym (guarded_lets s s _ c.in-Ok.ensures))
+    ∙ ap (λ a. gives s (wake (wake_by a))) c.peek_sound.ensures ∙ sym (guarded_lets s s _ c.in_default.ensures))
 
 pub returns-in-Err : goal.returns-in-Err
 unfolding guard_of guarded next_wake_of

@@ -1,16 +1,16 @@
 -- A poll answers what the word of the named timer says, of a closed set too.
 -- Assumes nothing.
-use native.Mathlib.Omega.{arith}
-use Rattle.timers.proofs.Guarding.{door_lets}
 use mathlib.Core.Bool.{false}
 use mathlib.Core.Path.{sym}
+use native.Mathlib.Omega.{arith}
 use Rattle.refusals.proofs.Refusing.{not_both}
 use Rattle.timers.specs.Calls.{guarded, door_of, poll_of}
+use Rattle.timers.proofs.Guarding.{door_lets}
 use Rattle.timers.proofs.poll.Goals as goal
 
-pub returns-in-Ok : goal.returns-in-Ok
+pub returns : goal.returns
 unfolding poll_of
-returns-in-Ok c = rw (c.given.ensures, c.poll.ensures) (sym (door_lets false _ _ _ c.in-Ok.ensures))
+returns c = rw (c.given.ensures, c.poll.ensures) (sym (door_lets false _ _ _ c.in-Ok.ensures))
 
 pub returns-in-Err : goal.returns-in-Err
 unfolding guarded door_of poll_of

@@ -6,12 +6,12 @@ use Rattle.timers.specs.Calls.{guarded, door_of, restart_at}
 use Rattle.timers.proofs.Alive.{live_place}
 use Rattle.timers.proofs.restart.Goals as goal
 
-pub reset_to-requires : goal.reset_to-requires
-reset_to-requires c = live_place _ _ _ c.in-Ok.ensures
+pub touched-requires : goal.touched-requires
+touched-requires c = live_place _ _ _ c.in-Ok.ensures
 
-pub returns-in-Ok-restarted : goal.returns-in-Ok-restarted
+pub returns : goal.returns
 unfolding guarded door_of restart_at
-returns-in-Ok-restarted c = grind arith
+returns c = grind arith
 
 pub returns-in-Err-restarted : goal.returns-in-Err-restarted
 unfolding guarded door_of restart_at

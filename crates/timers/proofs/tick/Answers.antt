@@ -1,10 +1,10 @@
 -- A live timer that has fired answers its deadline and is reset to what the interval's rule says, or refused as that is.
 -- Assumes nothing.
-use native.Mathlib.Omega.{arith}
-use Rattle.timers.proofs.Guarding.{door_lets}
 use mathlib.Core.Path.{sym, ◌∙◌}
+use native.Mathlib.Omega.{arith}
 use Rattle.refusals.proofs.Refusing.{not_both}
 use Rattle.timers.specs.Calls.{guarded, door_of, tick_at}
+use Rattle.timers.proofs.Guarding.{door_lets}
 use Rattle.timers.proofs.Alive.{live_place}
 use Rattle.timers.proofs.tick.Goals as goal
 
@@ -16,13 +16,13 @@ pub returns-then-not-fired : goal.returns-then-not-fired
 unfolding guarded door_of tick_at
 returns-then-not-fired c = grind arith
 
-pub reset_to-requires : goal.reset_to-requires
-reset_to-requires c = live_place _ _ _ c.in-Ok.ensures
+pub touched-requires : goal.touched-requires
+touched-requires c = live_place _ _ _ c.in-Ok.ensures
 
-pub returns-in-Ok-next_deadline : goal.returns-in-Ok-next_deadline
+pub returns : goal.returns
 unfolding tick_at
-returns-in-Ok-next_deadline c =
-    rw (c.given.ensures, c.reset_to.ensures)
+returns c =
+    rw (c.given.ensures, c.touched.ensures, c.reset_to.ensures)
     (sym (door_lets _ _ _ _ c.in-Ok.ensures ∙ rw (sym c.fired.ensures ∙ c.if-not-fired.false, sym c.in-Ok-next_deadline.ensures)))
 
 pub returns-in-Err-next_deadline : goal.returns-in-Err-next_deadline

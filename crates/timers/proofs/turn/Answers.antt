@@ -2,13 +2,13 @@
 -- enough. Else the call is refused and the list is as it was.
 -- Assumes nothing.
 use native.Mathlib.Omega.{arith}
-use Rattle.refusals.proofs.Refusing.{not_both}
 use borrow.Author.Rules.{rules}
 use Rattle.theory.proofs.Stores.{unmapped}
+use Rattle.refusals.proofs.Refusing.{not_both}
 use Rattle.heap.specs.Capacity.{cap}
 use Rattle.moves.proofs.DrainLaws.{drained_heap}
-use Rattle.timers.proofs.Guarding.{opened_sound}
 use Rattle.timers.specs.Calls.{open_of, guarded, turn_of}
+use Rattle.timers.proofs.Guarding.{opened_sound}
 use Rattle.timers.proofs.turn.Goals as goal
 
 pub returns-in-Err : goal.returns-in-Err
