@@ -7,26 +7,25 @@ use crate::unsound::wake;
 use handmade::heaps;
 use handmade::heaps::{empty, entry, freed, full, slab};
 use heap::{Entry, Heap, Place, SlabSlot};
-use state::{Held, Life, Set, Timer, Waiting};
+use state::{Life, Set, Timer, Waiting};
 use std::io;
 
 // The set with this timer at place p.
-fn with_timer(s: Set, p: usize, t: Timer) -> Set {
-    let mut g = s;
-    if p < heap::CAP {
-        g.timers[p] = t;
+fn with_timer(mut s: Set, p: usize, t: Timer) -> Set {
+    if let Some(place) = s.timers.get_mut(p) {
+        *place = t;
     }
-    g
+    s
 }
 
 // A live timer with the invalid mark, which no timer of an open set has.
 fn invalid(waiting: Waiting) -> Timer {
-    timer(Life::Live { word: 2, due: 5 }, waiting, Held::Nothing)
+    timer(Life::Live { word: 2, due: 5 }, waiting, None)
 }
 
 // A live timer that waits before this place.
 fn before(p: u16) -> Timer {
-    live(Waiting::Before(Place(p)), Held::Nothing)
+    live(Waiting::Before(Place(p)), None)
 }
 
 // A heap of no entry and these three slots, with this free head.

@@ -1,9 +1,9 @@
 // Timers and sets built by hand. They have the names that they have in specs/States.antt of the crate `promises`.
 use heap::{Heap, Place, Slot};
-use state::{First, Held, Life, Set, Timer, Waiting};
+use state::{Life, Set, Timer, Waiting};
 
 // A timer with use number 0.
-pub fn timer(life: Life, waiting: Waiting, held: Held) -> Timer {
+pub fn timer(life: Life, waiting: Waiting, held: Option<Slot>) -> Timer {
     Timer {
         life,
         waiting,
@@ -13,35 +13,36 @@ pub fn timer(life: Life, waiting: Waiting, held: Held) -> Timer {
 }
 
 // A live timer with deadline 5.
-pub fn live(waiting: Waiting, held: Held) -> Timer {
+pub fn live(waiting: Waiting, held: Option<Slot>) -> Timer {
     timer(Life::Live { word: 0, due: 5 }, waiting, held)
 }
 
 // A live timer that does not wait and names this slot.
 pub fn in_slot(q: u16) -> Timer {
-    live(Waiting::No, Held::At(Slot(q)))
+    live(Waiting::No, Some(Slot(q)))
 }
 
 // A live timer that does not wait and names no slot.
 pub fn apart() -> Timer {
-    live(Waiting::No, Held::Nothing)
+    live(Waiting::No, None)
 }
 
 // A live timer that waits, the last of the list, and names no slot.
 pub fn waits() -> Timer {
-    live(Waiting::Last, Held::Nothing)
+    live(Waiting::Last, None)
 }
 
 // A free place.
 pub fn free() -> Timer {
-    timer(Life::Free, Waiting::No, Held::Nothing)
+    timer(Life::Free, Waiting::No, None)
 }
 
 // An open set with this heap: every place is free, and nobody is in the list.
 pub fn bare(h: Heap) -> Set {
-    let mut s = state::fresh();
-    s.heap = h;
-    s
+    Set {
+        heap: h,
+        ..state::fresh()
+    }
 }
 
 // An open set with this heap and this timer at place 0. Nobody is in the list.
@@ -70,23 +71,22 @@ pub fn one(t: Timer) -> Set {
 
 // The set with this place at the head of the list.
 pub fn from(s: Set, p: u16) -> Set {
-    let mut g = s;
-    g.first = First::At(Place(p));
-    g
+    Set {
+        first: Some(Place(p)),
+        ..s
+    }
 }
 
 // The set closed.
 pub fn closed(s: Set) -> Set {
-    let mut g = s;
-    g.closed = true;
-    g
+    Set { closed: true, ..s }
 }
 
 // An open set whose every place has a live timer, in the slot that has the number of its place.
 pub fn all_in_slots(h: Heap) -> Set {
     let mut s = bare(h);
-    for p in 0..heap::CAP {
-        s.timers[p] = in_slot(p as u16);
+    for (p, t) in s.timers.iter_mut().enumerate() {
+        *t = in_slot(p as u16);
     }
     s
 }

@@ -7,21 +7,18 @@ use crate::sets::{apart, closed, from, in_slot, open, open_two, timer, waits};
 use handmade::heaps::{empty, entry, freed, full, holding, slab, vacated};
 use handmade::{heaps, tell};
 use heap::{Heap, Place, Slot};
-use state::{Held, Life, Set, Waiting};
+use state::{Life, Set, Waiting};
 use std::io;
 
 // What the set is, and what a next wake of it answers.
 pub fn wake(rt: &impl Print, what: &[u8], s: Set) -> io::Result<()> {
-    tell::text(rt, what)?;
-    let a = timers::next_wake(s);
-    tell::reply(rt, a.reply)
+    tell::answer(rt, what, timers::next_wake(s).answer)
 }
 
 // The same of a set whose heap is at fault, and what a peek of that heap, used alone, answers.
 fn peek(rt: &impl Print, what: &[u8], s: Set) -> io::Result<()> {
     wake(rt, what, s)?;
-    tell::text(rt, b"its heap alone: ")?;
-    tell::peeked(rt, heap::peek(s.heap))
+    tell::answer(rt, b"its heap alone: ", heap::peek(s.heap))
 }
 
 // One entry, of place 0 in slot 0.
@@ -152,7 +149,7 @@ fn slots(rt: &impl Print) -> io::Result<()> {
     wake(
         rt,
         b"row 22, clause 21, a free place that names a slot: ",
-        open(vacated(), timer(Life::Free, Waiting::No, Held::At(Slot(0)))),
+        open(vacated(), timer(Life::Free, Waiting::No, Some(Slot(0)))),
     )?;
     wake(
         rt,
@@ -218,10 +215,7 @@ fn listed(rt: &impl Print) -> io::Result<()> {
     wake(
         rt,
         b"row 41, clause 33, a list that loops: ",
-        from(
-            sets::one(sets::live(Waiting::Before(Place(0)), Held::Nothing)),
-            0,
-        ),
+        from(sets::one(sets::live(Waiting::Before(Place(0)), None)), 0),
     )
 }
 
@@ -230,13 +224,13 @@ fn closings(rt: &impl Print) -> io::Result<()> {
     wake(
         rt,
         b"row 43, clause 41, an invalid mark on a live timer of an open set: ",
-        sets::one(timer(Life::Live { word: 2, due: 5 }, Waiting::No, Held::Nothing)),
+        sets::one(timer(Life::Live { word: 2, due: 5 }, Waiting::No, None)),
     )?;
     wake(
         rt,
         b"row 49, clause 42, an invalid mark on a cancelled one: ",
         from(
-            sets::one(timer(Life::Cancelled { word: 2 }, Waiting::Last, Held::Nothing)),
+            sets::one(timer(Life::Cancelled { word: 2 }, Waiting::Last, None)),
             0,
         ),
     )?;
@@ -257,28 +251,22 @@ fn unused(rt: &impl Print) -> io::Result<()> {
     wake(
         rt,
         b"row 55, clause 51, an entry of a free place: ",
-        open(own(), timer(Life::Free, Waiting::No, Held::At(Slot(0)))),
+        open(own(), timer(Life::Free, Waiting::No, Some(Slot(0)))),
     )?;
     wake(
         rt,
         b"row 56, clause 52, an entry of a retired place: ",
-        open(own(), timer(Life::Retired, Waiting::No, Held::At(Slot(0)))),
+        open(own(), timer(Life::Retired, Waiting::No, Some(Slot(0)))),
     )?;
     wake(
         rt,
         b"row 60, clause 53, a free place in the list: ",
-        from(
-            sets::one(timer(Life::Free, Waiting::Last, Held::Nothing)),
-            0,
-        ),
+        from(sets::one(timer(Life::Free, Waiting::Last, None)), 0),
     )?;
     wake(
         rt,
         b"row 61, clause 54, a retired place in the list: ",
-        from(
-            sets::one(timer(Life::Retired, Waiting::Last, Held::Nothing)),
-            0,
-        ),
+        from(sets::one(timer(Life::Retired, Waiting::Last, None)), 0),
     )
 }
 
@@ -287,7 +275,7 @@ fn cancels(rt: &impl Print) -> io::Result<()> {
     wake(
         rt,
         b"row 65, clause 61, a cancelled timer that does not wait: ",
-        sets::one(timer(Life::Cancelled { word: 0 }, Waiting::No, Held::Nothing)),
+        sets::one(timer(Life::Cancelled { word: 0 }, Waiting::No, None)),
     )
 }
 

@@ -37,10 +37,7 @@ pub fn entry(at: u64, place: u16, slot: u16) -> Entry
 pub fn freed(h: Heap, n: u16) -> Heap
     ensures { Freed h n result }
 {
-    let f = Slot(n);
-    let mut g = h;
-    g.free = f;
-    g
+    Heap { free: Slot(n), ..h }
 }
 
 // A heap of no entry and these two slots, of which so many are made, with this free head.
@@ -55,24 +52,22 @@ pub fn slab(x: SlabSlot, y: SlabSlot, made: usize, free: u16) -> Heap
 }
 
 // The heap with this one entry.
-pub fn holding(h: Heap, e: Entry) -> Heap
+pub fn holding(mut h: Heap, e: Entry) -> Heap
     ensures { Holding h e result }
 {
-    let mut g = h;
-    g.entries[0] = e;
-    g.len = 1;
-    g
+    h.entries[0] = e;
+    h.len = 1;
+    h
 }
 
 // The heap with these two entries.
-pub fn holding_two(h: Heap, e: Entry, f: Entry) -> Heap
+pub fn holding_two(mut h: Heap, e: Entry, f: Entry) -> Heap
     ensures { HoldingTwo h e f result }
 {
-    let mut g = h;
-    g.entries[0] = e;
-    g.entries[1] = f;
-    g.len = 2;
-    g
+    h.entries[0] = e;
+    h.entries[1] = f;
+    h.len = 2;
+    h
 }
 
 // A heap of one entry, in slot 0.
@@ -100,10 +95,11 @@ pub fn vacated() -> Heap
 pub fn left_over() -> Heap
     ensures { LeftOver result }
 {
-    let mut h = freed(one(entry(5, 0, 0)), 0);
-    h.len = 0;
-    h.made = 0;
-    h
+    Heap {
+        len: 0,
+        made: 0,
+        ..freed(one(entry(5, 0, 0)), 0)
+    }
 }
 
 // A full heap: entries of one deadline, each in the slot and of the place that have the number of its position.
@@ -124,9 +120,10 @@ pub fn full_heap() -> Heap
 pub fn with_one_more_entry(h: Heap) -> Heap
     ensures { OneMore h result }
 {
-    let mut g = h;
-    g.len = heap::CAP + 1;
-    g
+    Heap {
+        len: heap::CAP + 1,
+        ..h
+    }
 }
 
 // Every slot empty, each naming the one before it, and one slot more counted than there is room for. The first names that count, and

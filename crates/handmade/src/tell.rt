@@ -1,36 +1,43 @@
 // What is written: plain text, and the answers of the calls. Each answer ends its line.
-use clock::{Change, Changed};
-use heap::{AfterPush, AfterRemove, Entry, Peeked, Pushed, Removed};
+use heap::{Entry, Pushed, Removed};
 use refusals::Refusal;
 use refusals::fault::Fault;
-use refusals::time::{Left, Time};
 use std::io;
 use timers::Reply;
-use timers::left::Least;
 use word::Polled;
+
+// What a call can answer where it is accepted.
+pub trait Tell: Copy {
+    // Writes it.
+    fn tell(self, rt: &impl Print) -> io::Result<()>;
+}
 
 // Writes a text.
 pub fn text(rt: &impl Print, s: &[u8]) -> io::Result<()> {
     rt.write_all(s)
 }
 
-// Writes a text and a number.
-fn number(rt: &impl Print, before: &[u8], n: u64) -> io::Result<()> {
-    text(rt, before)?;
-    print!(rt; "{n}")
+// Writes what was asked, and what was answered or why it was refused, and ends the line.
+pub fn answer<T: Tell>(rt: &impl Print, what: &[u8], r: Result<T, Refusal>) -> io::Result<()> {
+    text(rt, what)?;
+    match r {
+        Ok(value) => value.tell(rt)?,
+        Err(why) => refused(rt, why)?,
+    }
+    text(rt, b"\n")
 }
 
-// Writes a number that may be below zero.
-fn signed(rt: &impl Print, n: i64) -> io::Result<()> {
-    if n < 0 {
-        text(rt, b"-")?;
+// Writes the words of a list, and ends the line.
+pub fn words(rt: &impl Print, list: &[u64]) -> io::Result<()> {
+    for word in list {
+        print!(rt; " {word}")?;
     }
-    number(rt, b"", refusals::time::size(n))
+    text(rt, b"\n")
 }
 
 // Writes a refusal by its number, and the fault that an unsound state is refused for.
 fn refused(rt: &impl Print, why: Refusal) -> io::Result<()> {
-    number(rt, b"refused ", u64::from(refusals::number(why)))?;
+    print!(rt; "refused {}", refusals::number(why))?;
     match why {
         Refusal::Unsound(f) => fault(rt, f),
         _ => Ok(()),
@@ -39,129 +46,112 @@ fn refused(rt: &impl Print, why: Refusal) -> io::Result<()> {
 
 // Writes a fault: its kind, and where it is.
 fn fault(rt: &impl Print, f: Fault) -> io::Result<()> {
-    match f {
-        Fault::Count => text(rt, b", count")?,
-        Fault::Position(_) => text(rt, b", position")?,
-        Fault::Order(_) => text(rt, b", order")?,
-        Fault::FreeChain(_) => text(rt, b", free chain")?,
-        Fault::List(_) => text(rt, b", list")?,
-        Fault::Place(_) => text(rt, b", place")?,
-    }
-    number(rt, b" ", refusals::fault::at(f))
+    let kind = match f {
+        Fault::Count => "count",
+        Fault::Position(_) => "position",
+        Fault::Order(_) => "order",
+        Fault::FreeChain(_) => "free chain",
+        Fault::List(_) => "list",
+        Fault::Place(_) => "place",
+    };
+    print!(rt; ", {kind} {}", refusals::fault::at(f))
 }
 
-// Writes what a poll found.
-fn polled(rt: &impl Print, found: Polled) -> io::Result<()> {
-    match found {
-        Polled::Pending => text(rt, b"pending"),
-        Polled::Fired => text(rt, b"fired"),
-        Polled::Gone => text(rt, b"gone"),
+impl Tell for () {
+    // A change of a clock, which hands nothing else back.
+    fn tell(self, rt: &impl Print) -> io::Result<()> {
+        text(rt, b"done")
     }
 }
 
-// Writes what a call on a set answered, and ends the line.
-pub fn reply(rt: &impl Print, r: Reply) -> io::Result<()> {
-    match r {
-        Reply::Added(handle) => {
-            number(rt, b"", u64::from(handle.place.0))?;
-            number(rt, b":", u64::from(handle.uses))?;
+impl Tell for u64 {
+    // A time.
+    fn tell(self, rt: &impl Print) -> io::Result<()> {
+        print!(rt; "{self}")
+    }
+}
+
+impl Tell for i64 {
+    // A time that is left.
+    fn tell(self, rt: &impl Print) -> io::Result<()> {
+        print!(rt; "{self}")
+    }
+}
+
+impl Tell for Option<i64> {
+    // The least that is left, if any is.
+    fn tell(self, rt: &impl Print) -> io::Result<()> {
+        match self {
+            Some(left) => left.tell(rt),
+            None => text(rt, b"none"),
         }
-        Reply::Done => text(rt, b"done")?,
-        Reply::Ran { reported, popped } => {
-            number(rt, b"reported ", reported as u64)?;
-            number(rt, b" popped ", popped as u64)?;
+    }
+}
+
+impl Tell for Entry {
+    // The deadline and the slot.
+    fn tell(self, rt: &impl Print) -> io::Result<()> {
+        print!(rt; "{} in slot {}", self.at, self.slot.0)
+    }
+}
+
+impl Tell for Option<Entry> {
+    // The head of a heap, if it has one.
+    fn tell(self, rt: &impl Print) -> io::Result<()> {
+        match self {
+            Some(head) => head.tell(rt),
+            None => text(rt, b"nothing"),
         }
-        Reply::WakeAt(at) => number(rt, b"wake ", at)?,
-        Reply::NoWake => text(rt, b"no wake")?,
-        Reply::Found(found) => polled(rt, found)?,
-        Reply::Ticked(at) => number(rt, b"ticked ", at)?,
-        Reply::Refused(why) => refused(rt, why)?,
     }
-    text(rt, b"\n")
 }
 
-// Writes an entry: its deadline and its slot.
-fn entry(rt: &impl Print, e: Entry) -> io::Result<()> {
-    number(rt, b"", e.at)?;
-    number(rt, b" in slot ", u64::from(e.slot.0))
+impl Tell for Pushed {
+    // The slot and the swaps.
+    fn tell(self, rt: &impl Print) -> io::Result<()> {
+        print!(rt; "slot {} swaps {}", self.slot.0, self.swaps)
+    }
 }
 
-// Writes what a push answered, and ends the line.
-pub fn pushed(rt: &impl Print, a: AfterPush) -> io::Result<()> {
-    match a.answer {
-        Pushed::Done { slot, swaps } => {
-            number(rt, b"slot ", u64::from(slot.0))?;
-            number(rt, b" swaps ", swaps as u64)?;
+impl Tell for Removed {
+    // The entry and the swaps.
+    fn tell(self, rt: &impl Print) -> io::Result<()> {
+        self.entry.tell(rt)?;
+        print!(rt; " swaps {}", self.swaps)
+    }
+}
+
+impl Tell for Option<Removed> {
+    // What was popped, if anything was.
+    fn tell(self, rt: &impl Print) -> io::Result<()> {
+        match self {
+            Some(popped) => popped.tell(rt),
+            None => text(rt, b"nothing"),
         }
-        Pushed::Refused(why) => refused(rt, why)?,
     }
-    text(rt, b"\n")
 }
 
-// Writes what a removal or a pop answered, and ends the line.
-pub fn removed(rt: &impl Print, a: AfterRemove) -> io::Result<()> {
-    match a.answer {
-        Removed::Done { entry: e, swaps } => {
-            entry(rt, e)?;
-            number(rt, b" swaps ", swaps as u64)?;
+impl Tell for Polled {
+    // What a poll found.
+    fn tell(self, rt: &impl Print) -> io::Result<()> {
+        match self {
+            Polled::Pending => text(rt, b"pending"),
+            Polled::Fired => text(rt, b"fired"),
+            Polled::Gone => text(rt, b"gone"),
         }
-        Removed::Nothing => text(rt, b"nothing")?,
-        Removed::Refused(why) => refused(rt, why)?,
     }
-    text(rt, b"\n")
 }
 
-// Writes what a peek answered, and ends the line.
-pub fn peeked(rt: &impl Print, p: Peeked) -> io::Result<()> {
-    match p {
-        Peeked::Head(e) => entry(rt, e)?,
-        Peeked::Nothing => text(rt, b"nothing")?,
-        Peeked::Refused(why) => refused(rt, why)?,
+impl Tell for Reply {
+    // What a call on a set answered.
+    fn tell(self, rt: &impl Print) -> io::Result<()> {
+        match self {
+            Reply::Added(handle) => print!(rt; "{}:{}", handle.place.0, handle.uses),
+            Reply::Done => text(rt, b"done"),
+            Reply::Ran { reported, popped } => print!(rt; "reported {reported} popped {popped}"),
+            Reply::Wake(Some(at)) => print!(rt; "wake {at}"),
+            Reply::Wake(None) => text(rt, b"no wake"),
+            Reply::Found(found) => found.tell(rt),
+            Reply::Ticked(at) => print!(rt; "ticked {at}"),
+        }
     }
-    text(rt, b"\n")
-}
-
-// Writes what a clock's reading answered, and ends the line.
-pub fn time(rt: &impl Print, t: Time) -> io::Result<()> {
-    match t {
-        Time::At(at) => number(rt, b"", at)?,
-        Time::Refused(why) => refused(rt, why)?,
-    }
-    text(rt, b"\n")
-}
-
-// Writes what a time left answered, and ends the line.
-pub fn left(rt: &impl Print, l: Left) -> io::Result<()> {
-    match l {
-        Left::Nanos(n) => signed(rt, n)?,
-        Left::Refused(why) => refused(rt, why)?,
-    }
-    text(rt, b"\n")
-}
-
-// Writes what a least left answered, and ends the line.
-pub fn least(rt: &impl Print, l: Least) -> io::Result<()> {
-    match l {
-        Least::Nothing => text(rt, b"none")?,
-        Least::Nanos(n) => signed(rt, n)?,
-        Least::Refused(why) => refused(rt, why)?,
-    }
-    text(rt, b"\n")
-}
-
-// Writes what a change of a clock answered, and ends the line.
-pub fn changed(rt: &impl Print, c: Changed) -> io::Result<()> {
-    match c.answer {
-        Change::Done => text(rt, b"done")?,
-        Change::Refused(why) => refused(rt, why)?,
-    }
-    text(rt, b"\n")
-}
-
-// Writes the words of a list, and ends the line.
-pub fn words(rt: &impl Print, list: &[u64]) -> io::Result<()> {
-    for word in list {
-        number(rt, b" ", *word)?;
-    }
-    text(rt, b"\n")
 }

@@ -1,40 +1,56 @@
 // The calls on a clock alone, and the lines that tell of them.
 use crate::record::Record;
-use crate::text;
 use crate::text::Output;
 use clock::{Change, Changed, Clock};
 use refusals::time::Time;
 
-// Makes the call of a record on a clock and tells of it.
-pub fn told(c: &mut Clock, r: Record, out: &mut Output) {
-    if 28 < r.op {
-        return text::unknown(out);
-    }
-    text::number(r.op as u64, out);
-    made(c, r, out);
-    shown(*c, out);
+// A call on a clock.
+#[derive(Clone, Copy)]
+enum Call {
+    Fresh { raw: u64 },
+    Read { raw: u64 },
+    Pause { raw: u64 },
+    Resume { raw: u64 },
+    Advance { duration: u64 },
 }
 
-// Makes the call of a record, 24 to 28, and puts what it answers.
-fn made(c: &mut Clock, r: Record, out: &mut Output) {
+// The call that a record asks for, where there is one.
+fn call_of(r: Record) -> Option<Call> {
     match r.op {
-        24 => {
-            *c = clock::fresh(r.a);
-            text::accepted(out)
-        }
-        25 => read(clock::reading(*c, r.a), out),
-        26 => changed(c, clock::pause(*c, r.a), out),
-        27 => changed(c, clock::resume(*c, r.a), out),
-        _ => changed(c, clock::advance(*c, r.a), out),
+        24 => Some(Call::Fresh { raw: r.a }),
+        25 => Some(Call::Read { raw: r.a }),
+        26 => Some(Call::Pause { raw: r.a }),
+        27 => Some(Call::Resume { raw: r.a }),
+        28 => Some(Call::Advance { duration: r.a }),
+        _ => None,
     }
+}
+
+// Makes the call of a record on a clock and tells of it.
+pub fn told(c: &mut Clock, r: Record, out: &mut Output) {
+    let Some(call) = call_of(r) else {
+        return out.unknown();
+    };
+    out.number(r.op as u64);
+    match call {
+        Call::Fresh { raw } => {
+            *c = clock::fresh(raw);
+            out.accepted()
+        }
+        Call::Read { raw } => read(clock::reading(*c, raw), out),
+        Call::Pause { raw } => changed(c, clock::pause(*c, raw), out),
+        Call::Resume { raw } => changed(c, clock::resume(*c, raw), out),
+        Call::Advance { duration } => changed(c, clock::advance(*c, duration), out),
+    }
+    shown(*c, out);
 }
 
 // Takes over the clock that a change left, and puts what the change answered.
 fn changed(c: &mut Clock, after: Changed, out: &mut Output) {
     *c = after.clock;
     match after.answer {
-        Change::Done => text::accepted(out),
-        Change::Refused(why) => text::refused(why, out),
+        Change::Done => out.accepted(),
+        Change::Refused(why) => out.refused(why),
     }
 }
 
@@ -42,10 +58,10 @@ fn changed(c: &mut Clock, after: Changed, out: &mut Output) {
 fn read(t: Time, out: &mut Output) {
     match t {
         Time::At(time) => {
-            text::accepted(out);
-            text::field(time, out)
+            out.accepted();
+            out.field(time)
         }
-        Time::Refused(why) => text::refused(why, out),
+        Time::Refused(why) => out.refused(why),
     }
 }
 
@@ -53,14 +69,14 @@ fn read(t: Time, out: &mut Output) {
 fn shown(c: Clock, out: &mut Output) {
     match c {
         Clock::Running { base, start } => {
-            text::bytes(b" | r", out);
-            text::field(base, out);
-            text::field(start, out);
+            out.bytes(b" | r");
+            out.field(base);
+            out.field(start);
         }
         Clock::Paused { base } => {
-            text::bytes(b" | p", out);
-            text::field(base, out);
+            out.bytes(b" | p");
+            out.field(base);
         }
     }
-    text::end(out);
+    out.end();
 }

@@ -1,30 +1,48 @@
 // The calls on a heap alone, and the lines that tell of them.
 use crate::record::Record;
-use crate::text;
 use crate::text::Output;
 use heap::{
     AfterPush, AfterRemove, Entry, Heap, Peeked, Place, Pushed, Removed, SlabSlot, Slot, SlotState,
 };
 
-// Makes the call of a record on a heap and tells of it.
-pub fn told(h: &mut Heap, r: Record, out: &mut Output) {
-    if 20 < r.op {
-        return text::unknown(out);
-    }
-    text::number(r.op as u64, out);
-    made(h, r, out);
-    shown(h, out);
+// A call on a heap.
+#[derive(Clone, Copy)]
+enum Call {
+    Push { due: u64 },
+    Remove { slot: Slot },
+    Pop,
+    Peek,
+    Test,
 }
 
-// Makes the call of a record, 16 to 20, and puts what it answers.
-fn made(h: &mut Heap, r: Record, out: &mut Output) {
+// The call that a record asks for, where there is one.
+fn call_of(r: Record) -> Option<Call> {
     match r.op {
-        16 => pushed(h, heap::push(*h, r.a, 0, Place(0)), out),
-        17 => removed(h, heap::remove(*h, Slot(r.place)), out),
-        18 => popped(h, heap::pop(*h), out),
-        19 => peeked(heap::peek(*h), out),
-        _ => tested(heap::consistent(*h), out),
+        16 => Some(Call::Push { due: r.a }),
+        17 => Some(Call::Remove {
+            slot: Slot(r.place),
+        }),
+        18 => Some(Call::Pop),
+        19 => Some(Call::Peek),
+        20 => Some(Call::Test),
+        _ => None,
     }
+}
+
+// Makes the call of a record on a heap and tells of it.
+pub fn told(h: &mut Heap, r: Record, out: &mut Output) {
+    let Some(call) = call_of(r) else {
+        return out.unknown();
+    };
+    out.number(r.op as u64);
+    match call {
+        Call::Push { due } => pushed(h, heap::push(*h, due, 0, Place(0)), out),
+        Call::Remove { slot } => removed(h, heap::remove(*h, slot), out),
+        Call::Pop => popped(h, heap::pop(*h), out),
+        Call::Peek => peeked(heap::peek(*h), out),
+        Call::Test => tested(heap::consistent(*h), out),
+    }
+    shown(h, out);
 }
 
 // Takes over the heap that a push left, and puts what it answered: the slot and the swaps.
@@ -32,11 +50,11 @@ fn pushed(h: &mut Heap, after: AfterPush, out: &mut Output) {
     *h = after.heap;
     match after.answer {
         Pushed::Done { slot, swaps } => {
-            text::accepted(out);
-            text::field(slot.0 as u64, out);
-            text::field(swaps as u64, out)
+            out.accepted();
+            out.field(slot.0 as u64);
+            out.field(swaps as u64)
         }
-        Pushed::Refused(why) => text::refused(why, out),
+        Pushed::Refused(why) => out.refused(why),
     }
 }
 
@@ -45,12 +63,12 @@ fn removed(h: &mut Heap, after: AfterRemove, out: &mut Output) {
     *h = after.heap;
     match after.answer {
         Removed::Done { entry, swaps } => {
-            text::accepted(out);
-            text::field(entry.at, out);
-            text::field(swaps as u64, out)
+            out.accepted();
+            out.field(entry.at);
+            out.field(swaps as u64)
         }
         Removed::Nothing => nothing(out),
-        Removed::Refused(why) => text::refused(why, out),
+        Removed::Refused(why) => out.refused(why),
     }
 }
 
@@ -60,10 +78,10 @@ fn popped(h: &mut Heap, after: AfterRemove, out: &mut Output) {
     match after.answer {
         Removed::Done { entry, swaps } => {
             head(entry, out);
-            text::field(swaps as u64, out)
+            out.field(swaps as u64)
         }
         Removed::Nothing => nothing(out),
-        Removed::Refused(why) => text::refused(why, out),
+        Removed::Refused(why) => out.refused(why),
     }
 }
 
@@ -72,55 +90,46 @@ fn peeked(p: Peeked, out: &mut Output) {
     match p {
         Peeked::Head(entry) => head(entry, out),
         Peeked::Nothing => nothing(out),
-        Peeked::Refused(why) => text::refused(why, out),
+        Peeked::Refused(why) => out.refused(why),
     }
 }
 
 // What the heap test answered.
 fn tested(sound: bool, out: &mut Output) {
-    text::accepted(out);
-    text::field(sound as u64, out);
+    out.accepted();
+    out.field(sound as u64);
 }
 
 // The answer with an entry: its deadline and its slot.
 fn head(e: Entry, out: &mut Output) {
-    text::accepted(out);
-    text::field(e.at, out);
-    text::field(e.slot.0 as u64, out);
+    out.accepted();
+    out.field(e.at);
+    out.field(e.slot.0 as u64);
 }
 
 // The answer that there is no entry.
 fn nothing(out: &mut Output) {
-    text::accepted(out);
-    text::mark(b'-', out);
+    out.accepted();
+    out.mark(b'-');
 }
 
 // Shows a heap, and ends the line.
 fn shown(h: &Heap, out: &mut Output) {
-    text::mark(b'|', out);
-    entries(h, false, out);
-    text::mark(b'|', out);
-    text::field(h.free.0 as u64, out);
-    text::field(h.made as u64, out);
+    out.mark(b'|');
+    entries(h, out);
+    out.mark(b'|');
+    out.field(h.free.0 as u64);
+    out.field(h.made as u64);
     slots(h, out);
-    text::end(out);
+    out.end();
 }
 
-// A heap's entries by position, whole or in short.
-pub fn entries(h: &Heap, whole: bool, out: &mut Output) {
+// A heap's entries by position: the deadline and the slot of each.
+fn entries(h: &Heap, out: &mut Output) {
     for e in h.entries.iter().take(h.len) {
-        entry(*e, whole, out);
+        out.field(e.at);
+        out.part(e.slot.0 as u64);
     }
-}
-
-// An entry: its deadline and its slot; a whole one with its generation and its place between them.
-fn entry(e: Entry, whole: bool, out: &mut Output) {
-    text::field(e.at, out);
-    if whole {
-        text::part(e.generation as u64, out);
-        text::part(e.place.0 as u64, out);
-    }
-    text::part(e.slot.0 as u64, out);
 }
 
 // The slots that were made.
@@ -134,12 +143,12 @@ fn slots(h: &Heap, out: &mut Output) {
 fn slot(s: SlabSlot, out: &mut Output) {
     match s.state {
         SlotState::Full(pos) => {
-            text::mark(b'F', out);
-            text::number(pos.0 as u64, out)
+            out.mark(b'F');
+            out.number(pos.0 as u64)
         }
         SlotState::Empty(next) => {
-            text::mark(b'E', out);
-            text::number(next.0 as u64, out)
+            out.mark(b'E');
+            out.number(next.0 as u64)
         }
     }
 }

@@ -40,41 +40,25 @@ fn fresh() -> World {
     }
 }
 
-// A record for the set of timers.
-fn on_set(w: &mut World, r: Record, out: &mut Output) {
-    sets::told(&mut w.set, r, out);
-}
-
-// A record for the heap alone.
-fn on_heap(w: &mut World, r: Record, out: &mut Output) {
-    heaps::told(&mut w.heap, r, out);
-}
-
-// A record for the clock alone.
-fn on_clock(w: &mut World, r: Record, out: &mut Output) {
-    clocks::told(&mut w.clock, r, out);
-}
-
 // Makes the call of a record and tells of it: 0 to 15 are for the set, 16 to 23 for the heap, the rest for the clock, but 31 begins
 // anew.
 fn step(w: &mut World, r: Record, out: &mut Output) {
     match r.op {
-        0..=15 => on_set(w, r, out),
-        16..=23 => on_heap(w, r, out),
+        0..=15 => sets::told(&mut w.set, r, out),
+        16..=23 => heaps::told(&mut w.heap, r, out),
         31 => {
             *w = fresh();
-            text::bytes(b"31 0\n", out)
+            out.bytes(b"31 0\n")
         }
-        _ => on_clock(w, r, out),
+        _ => clocks::told(&mut w.clock, r, out),
     }
 }
 
 // Makes the calls of all the whole records in a piece of the input.
 fn steps(w: &mut World, piece: &[u8], out: &mut Output) {
-    let mut rest = piece;
-    while record::SIZE <= rest.len() {
-        step(w, record::first(rest), out);
-        rest = &rest[record::SIZE..];
+    let (records, _) = piece.as_chunks();
+    for bytes in records {
+        step(w, Record::from(bytes), out);
     }
 }
 
@@ -117,8 +101,8 @@ fn replay<R: Read>(input: &mut R, out: &mut Output) -> io::Result<()> {
 
 fn main(rt: HostRuntime) -> io::Result<()> {
     let mut input = rt.stdin();
-    let mut out = text::opened(rt.stdout());
+    let mut out = Output::new(rt.stdout());
     let replayed = replay(&mut input, &mut out);
-    text::flush(out)?;
+    out.flush()?;
     replayed
 }

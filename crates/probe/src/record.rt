@@ -1,5 +1,4 @@
 // A record of a call: 32 bytes, each number with its most significant byte first.
-ghost use Rattle.std.specs.Prelude.{◌≤◌, length};
 
 // How many bytes a record has.
 pub const SIZE: usize = 32;
@@ -17,36 +16,17 @@ pub struct Record {
     pub c: u64,
 }
 
-// The record that some bytes begin with.
-pub fn first(s: &[u8]) -> Record
-    requires { 32 ≤ length s.now }
-{
-    Record {
-        op: s[0],
-        policy: s[1],
-        place: two(s[2], s[3]),
-        uses: four(two(s[4], s[5]), two(s[6], s[7])),
-        a: eight(&s[8..16]),
-        b: eight(&s[16..24]),
-        c: eight(&s[24..32]),
+impl From<&[u8; SIZE]> for Record {
+    // The record that these bytes are.
+    fn from(bytes: &[u8; SIZE]) -> Record {
+        Record {
+            op: bytes[0],
+            policy: bytes[1],
+            place: u16::from_be_bytes([bytes[2], bytes[3]]),
+            uses: u32::from_be_bytes(bytes[4..8].try_into().unwrap()),
+            a: u64::from_be_bytes(bytes[8..16].try_into().unwrap()),
+            b: u64::from_be_bytes(bytes[16..24].try_into().unwrap()),
+            c: u64::from_be_bytes(bytes[24..].try_into().unwrap()),
+        }
     }
-}
-
-// The number of two bytes.
-fn two(high: u8, low: u8) -> u16 {
-    ((high as u16) << 8) | (low as u16)
-}
-
-// The number of four bytes, from those of each two.
-fn four(high: u16, low: u16) -> u32 {
-    ((high as u32) << 16) | (low as u32)
-}
-
-// The number of eight bytes.
-fn eight(s: &[u8]) -> u64
-    requires { 8 ≤ length s.now }
-{
-    let high = four(two(s[0], s[1]), two(s[2], s[3]));
-    let low = four(two(s[4], s[5]), two(s[6], s[7]));
-    ((high as u64) << 32) | (low as u64)
 }

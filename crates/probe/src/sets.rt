@@ -1,14 +1,13 @@
 // The calls on a set of timers, and the lines that tell of them.
 use crate::record::Record;
 use crate::text::Output;
-use crate::{heaps, text};
-use heap::Place;
+use heap::{Heap, Place, Slot};
 use interval::Policy;
 use refusals::Refusal;
 use refusals::time::Left;
-use state::{First, Handle, Held, Life, Named, Set, Timer, Waiting};
+use state::{Handle, Life, Set, Timer, Waiting};
 use timers::left::Least;
-use timers::{After, Call, Reply};
+use timers::{Call, Reply};
 use word::Polled;
 
 // Every bit of a state word but the invalid mark.
@@ -22,165 +21,133 @@ enum Wish {
     Call(Call),
     // for tests alone: another state word for a live timer
     Word { handle: Handle, word: u32 },
-    // no call that there is
-    Unknown,
 }
 
-// Makes the call of a record on a set and tells of it.
+// Does what a record asks of a set and tells of it.
 pub fn told(s: &mut Set, r: Record, out: &mut Output) {
-    match wish_of(r) {
-        Wish::Call(call) => performed(s, r, call, out),
-        Wish::Word { handle, word } => reworded(s, r, handle, word, out),
-        Wish::Unknown => text::unknown(out),
+    let Some(wish) = wish_of(r) else {
+        return out.unknown();
+    };
+    out.number(r.op as u64);
+    match wish {
+        Wish::Call(call) => performed(s, call, out),
+        Wish::Word { handle, word } => reworded(s, handle, word, out),
     }
+    shown(s, r.c, out);
 }
 
-// Makes a call, with a list of the length that an advance asks for, and tells of it.
-fn performed(s: &mut Set, r: Record, call: Call, out: &mut Output) {
+// Makes a call, with a list of the length that an advance asks for, and puts what it answered.
+fn performed(s: &mut Set, call: Call, out: &mut Output) {
     let mut list = [0u64; heap::CAP];
     let a = timers::perform(*s, call, &mut list);
     *s = a.set;
-    text::number(r.op as u64, out);
     answer(a.reply, &list, out);
-    shown(s, r.c, out);
 }
 
-// Gives a live timer another state word, and tells of it.
-fn reworded(s: &mut Set, r: Record, handle: Handle, word: u32, out: &mut Output) {
-    let a = with_word(*s, handle, word);
-    *s = a.set;
-    text::number(r.op as u64, out);
-    done(a.reply, out);
-    shown(s, r.c, out);
+// Gives a live timer another state word, and puts whether that was accepted.
+fn reworded(s: &mut Set, handle: Handle, word: u32, out: &mut Output) {
+    match with_word(*s, handle, word) {
+        Ok(after) => {
+            *s = after;
+            out.accepted()
+        }
+        Err(why) => out.refused(why),
+    }
 }
 
-// What a record asks.
-fn wish_of(r: Record) -> Wish {
+// What a record asks, where there is such a call.
+fn wish_of(r: Record) -> Option<Wish> {
     let handle = Handle {
         place: Place(r.place),
         uses: r.uses,
     };
-    let op = r.op;
-    match op {
-        0 => Wish::Call(Call::Add { due: r.a }),
-        1 => Wish::Call(Call::Reset { handle, due: r.a }),
-        2 => Wish::Call(Call::Cancel { handle }),
-        3 => Wish::Call(Call::Drain),
-        4 => Wish::Call(Call::Advance { reading: r.a }),
-        5 => Wish::Call(Call::Turn { reading: r.a }),
-        6 => Wish::Call(Call::NextWake),
-        7 => Wish::Call(Call::Poll { handle }),
-        8 => Wish::Call(Call::Close),
-        9 => ticked(r, handle),
-        10 => Wish::Call(Call::Restart {
+    let call = match r.op {
+        0 => Call::Add { due: r.a },
+        1 => Call::Reset { handle, due: r.a },
+        2 => Call::Cancel { handle },
+        3 => Call::Drain,
+        4 => Call::Advance { reading: r.a },
+        5 => Call::Turn { reading: r.a },
+        6 => Call::NextWake,
+        7 => Call::Poll { handle },
+        8 => Call::Close,
+        9 => Call::Tick {
+            handle,
+            policy: policy_of(r.policy)?,
+            period: r.a,
+            reading: r.b,
+        },
+        10 => Call::Restart {
             handle,
             period: r.a,
             reading: r.b,
-        }),
-        12 => Wish::Word {
-            handle,
-            word: (r.a % HIGH) as u32 & VALID,
         },
-        _ => Wish::Unknown,
-    }
+        12 => {
+            let word = (r.a % HIGH) as u32 & VALID;
+            return Some(Wish::Word { handle, word });
+        }
+        _ => return None,
+    };
+    Some(Wish::Call(call))
 }
 
-// What the record of a tick asks: nothing that there is, where it names no policy.
-fn ticked(r: Record, handle: Handle) -> Wish {
-    let p = r.policy;
-    let policy = match p {
-        0 => Policy::Burst,
-        1 => Policy::Delay,
-        2 => Policy::Skip,
-        _ => {
-            return Wish::Unknown;
-        }
-    };
-    Wish::Call(Call::Tick {
-        handle,
-        policy,
-        period: r.a,
-        reading: r.b,
-    })
+// The policy of a number, where it has one.
+fn policy_of(number: u8) -> Option<Policy> {
+    match number {
+        0 => Some(Policy::Burst),
+        1 => Some(Policy::Delay),
+        2 => Some(Policy::Skip),
+        _ => None,
+    }
 }
 
 // The set with another state word for a live timer: refused where the set is closed, or the handle dead.
-fn with_word(s: Set, handle: Handle, word: u32) -> After {
+fn with_word(s: Set, handle: Handle, word: u32) -> Result<Set, Refusal> {
     if s.closed {
-        return After {
-            set: s,
-            reply: Reply::Refused(Refusal::Closed),
-        };
+        return Err(Refusal::Closed);
     }
     let p = handle.place.0 as usize;
-    if heap::CAP <= p {
-        return dead(s);
-    }
-    let t = s.timers[p];
+    let t = s.timers.get(p).ok_or(Refusal::DeadHandle)?;
     if t.uses != handle.uses {
-        return dead(s);
+        return Err(Refusal::DeadHandle);
     }
-    let l = t.life;
-    let Life::Live { word: _, due } = l else {
-        return dead(s);
+    let Life::Live { due, .. } = t.life else {
+        return Err(Refusal::DeadHandle);
     };
     let mut g = s;
-    g.timers[p] = with_life(t, Life::Live { word, due });
-    After {
-        set: g,
-        reply: Reply::Done,
-    }
-}
-
-// The refusal of a dead handle.
-fn dead(s: Set) -> After {
-    After {
-        set: s,
-        reply: Reply::Refused(Refusal::DeadHandle),
-    }
-}
-
-// The timer with another life.
-fn with_life(t: Timer, life: Life) -> Timer {
-    let waiting = t.waiting;
-    let held = t.held;
-    Timer {
-        life,
-        waiting,
-        held,
-        uses: t.uses,
-    }
+    g.timers[p].life = Life::Live { word, due };
+    Ok(g)
 }
 
 // What a call answered.
 fn answer(reply: Reply, list: &[u64; heap::CAP], out: &mut Output) {
     match reply {
         Reply::Added(handle) => {
-            text::accepted(out);
-            text::field(handle.place.0 as u64, out);
-            text::field(handle.uses as u64, out)
+            out.accepted();
+            out.field(handle.place.0 as u64);
+            out.field(handle.uses as u64)
         }
         Reply::Ran { reported, popped } => {
-            text::accepted(out);
-            text::field(reported as u64, out);
-            text::field(popped as u64, out);
+            out.accepted();
+            out.field(reported as u64);
+            out.field(popped as u64);
             reports(list, reported, out)
         }
         Reply::WakeAt(wake) => {
-            text::accepted(out);
-            text::field(wake, out)
+            out.accepted();
+            out.field(wake)
         }
         Reply::NoWake => {
-            text::accepted(out);
-            text::mark(b'-', out)
+            out.accepted();
+            out.mark(b'-')
         }
         Reply::Found(polled) => {
-            text::accepted(out);
+            out.accepted();
             found(polled, out)
         }
         Reply::Ticked(due) => {
-            text::accepted(out);
-            text::field(due, out)
+            out.accepted();
+            out.field(due)
         }
         _ => done(reply, out),
     }
@@ -189,17 +156,17 @@ fn answer(reply: Reply, list: &[u64; heap::CAP], out: &mut Output) {
 // What a call that answers no values answered.
 fn done(reply: Reply, out: &mut Output) {
     match reply {
-        Reply::Refused(why) => text::refused(why, out),
-        _ => text::accepted(out),
+        Reply::Refused(why) => out.refused(why),
+        _ => out.accepted(),
     }
 }
 
 // What a poll found.
 fn found(polled: Polled, out: &mut Output) {
     match polled {
-        Polled::Pending => text::field(0, out),
-        Polled::Fired => text::field(1, out),
-        Polled::Gone => text::field(2, out),
+        Polled::Pending => out.field(0),
+        Polled::Fired => out.field(1),
+        Polled::Gone => out.field(2),
     }
 }
 
@@ -213,87 +180,82 @@ fn reports(list: &[u64; heap::CAP], reported: usize, out: &mut Output) {
 // Whom a word names, as place and use number; a question mark for nobody.
 fn name(word: u64, out: &mut Output) {
     match state::handle_of(word) {
-        Named::Nobody => text::mark(b'?', out),
-        Named::Handle(handle) => {
-            text::field(handle.place.0 as u64, out);
-            text::part(handle.uses as u64, out)
+        None => out.mark(b'?'),
+        Some(handle) => {
+            out.field(handle.place.0 as u64);
+            out.part(handle.uses as u64)
         }
     }
 }
 
 // Shows a set, with how long is left at a reading, and ends the line.
 fn shown(s: &Set, reading: u64, out: &mut Output) {
-    text::mark(b'|', out);
+    out.mark(b'|');
     wake(s, out);
     least(timers::left::least_left(*s, reading), out);
-    text::mark(b'|', out);
+    out.mark(b'|');
     waiting(s, out);
-    text::mark(b'|', out);
+    out.mark(b'|');
     places(*s, reading, out);
-    text::mark(b'|', out);
-    heaps::entries(&s.heap, true, out);
-    text::end(out);
+    out.mark(b'|');
+    entries(&s.heap, out);
+    out.end();
+}
+
+// The heap's entries by position: the deadline, the generation, the place and the slot of each.
+fn entries(h: &Heap, out: &mut Output) {
+    for e in h.entries.iter().take(h.len) {
+        out.field(e.at);
+        out.part(e.generation as u64);
+        out.part(e.place.0 as u64);
+        out.part(e.slot.0 as u64);
+    }
 }
 
 // The next wake.
 fn wake(s: &Set, out: &mut Output) {
     match timers::next_wake(*s).reply {
-        Reply::WakeAt(wake) => text::field(wake, out),
-        Reply::NoWake => text::mark(b'-', out),
-        _ => text::mark(b'?', out),
+        Reply::WakeAt(wake) => out.field(wake),
+        Reply::NoWake => out.mark(b'-'),
+        _ => out.mark(b'?'),
     }
 }
 
 // The least that is left, or none.
 fn least(l: Least, out: &mut Output) {
-    text::byte(b' ', out);
+    out.byte(b' ');
     match l {
-        Least::Nothing => text::byte(b'-', out),
-        Least::Nanos(nanos) => text::signed(nanos, out),
-        Least::Refused(why) => text::barred(why, out),
+        Least::Nothing => out.byte(b'-'),
+        Least::Nanos(nanos) => out.signed(nanos),
+        Least::Refused(why) => out.barred(why),
     }
 }
 
 // The waiting list from its head, no longer than there are places.
 fn waiting(s: &Set, out: &mut Output) {
-    let mut p = head(s.first);
+    let mut next = s.first;
     for _ in 0..heap::CAP {
-        if heap::CAP <= p {
+        let Some(place) = next else {
             break;
-        }
-        text::field(p as u64, out);
-        p = next(s.timers[p]);
-    }
-}
-
-// The place at the head of the list, or the number of places where there is none.
-fn head(f: First) -> usize {
-    match f {
-        First::Nothing => heap::CAP,
-        First::At(place) => place.0 as usize,
-    }
-}
-
-// The place after a timer in the list, or the number of places where there is none.
-fn next(t: Timer) -> usize {
-    match t.waiting {
-        Waiting::No => heap::CAP,
-        Waiting::Last => heap::CAP,
-        Waiting::Before(place) => place.0 as usize,
+        };
+        let Some(t) = s.timers.get(place.0 as usize) else {
+            break;
+        };
+        out.field(place.0 as u64);
+        next = state::fault::after(t.waiting);
     }
 }
 
 // The places that are not as in a fresh set, each with how long its timer has to go at a reading. It takes the set by value, since
 // from behind a reference each query would copy it once more.
 fn places(s: Set, reading: u64, out: &mut Output) {
-    for p in 0..heap::CAP {
-        let t = s.timers[p];
-        if used(t) {
+    for (p, t) in s.timers.iter().enumerate() {
+        if used(*t) {
             let handle = Handle {
                 place: Place(p as u16),
                 uses: t.uses,
             };
-            place(p as u64, t, out);
+            place(p as u64, *t, out);
             left(timers::left::time_left(s, handle, reading), out);
         }
     }
@@ -301,51 +263,48 @@ fn places(s: Set, reading: u64, out: &mut Output) {
 
 // Whether a place is not as in a fresh set.
 fn used(t: Timer) -> bool {
-    if let Life::Free = t.life {
-        return t.uses != 0;
-    }
-    true
+    !matches!(t.life, Life::Free) || t.uses != 0
 }
 
 // A place: its number, its use number, whose it is, the state word, the deadline and the slot.
 fn place(p: u64, t: Timer, out: &mut Output) {
-    text::field(p, out);
-    text::part(t.uses as u64, out);
+    out.field(p);
+    out.part(t.uses as u64);
     life(t.life, out);
     held(t.held, out);
 }
 
 // How long a timer has to go.
 fn left(l: Left, out: &mut Output) {
-    text::byte(b':', out);
+    out.byte(b':');
     match l {
-        Left::Nanos(nanos) => text::signed(nanos, out),
-        Left::Refused(why) => text::barred(why, out),
+        Left::Nanos(nanos) => out.signed(nanos),
+        Left::Refused(why) => out.barred(why),
     }
 }
 
 // Whose a place is, with the state word and the deadline.
 fn life(l: Life, out: &mut Output) {
     match l {
-        Life::Free => text::bytes(b":F:-:-", out),
+        Life::Free => out.bytes(b":F:-:-"),
         Life::Live { word, due } => {
-            text::bytes(b":L", out);
-            text::part(word as u64, out);
-            text::part(due, out)
+            out.bytes(b":L");
+            out.part(word as u64);
+            out.part(due)
         }
         Life::Cancelled { word } => {
-            text::bytes(b":C", out);
-            text::part(word as u64, out);
-            text::bytes(b":-", out)
+            out.bytes(b":C");
+            out.part(word as u64);
+            out.bytes(b":-")
         }
-        Life::Retired => text::bytes(b":R:-:-", out),
+        Life::Retired => out.bytes(b":R:-:-"),
     }
 }
 
 // The slot of a timer's entry.
-fn held(h: Held, out: &mut Output) {
+fn held(h: Option<Slot>, out: &mut Output) {
     match h {
-        Held::Nothing => text::bytes(b":-", out),
-        Held::At(slot) => text::part(slot.0 as u64, out),
+        None => out.bytes(b":-"),
+        Some(slot) => out.part(slot.0 as u64),
     }
 }

@@ -1,5 +1,7 @@
 // The text that goes to standard output. It is gathered in a buffer of fixed size, and written out when that is full and at the end.
 // Each function puts something behind all that was put before. Where a write fails, nothing more is written, and the end tells why.
+ghost use Rattle.std.specs.Prelude.{◌≤◌};
+
 use itoa::Buffer;
 use refusals::Refusal;
 use std::io;
@@ -15,108 +17,101 @@ pub struct Output {
     at: usize,
     to: Stdout,
     went: io::Result<()>,
+    ghost within: { at ≤ 65536 },
 }
 
-// A buffer with nothing in it.
-pub fn opened(to: Stdout) -> Output {
-    Output {
-        gathered: [0; ROOM],
-        at: 0,
-        to,
-        went: Ok(()),
-    }
-}
-
-// Puts a byte. A full buffer is written out first.
-pub fn byte(b: u8, out: &mut Output) {
-    if ROOM <= out.at {
-        if out.went.is_ok() {
-            out.went = out.to.write_all(&out.gathered);
+impl Output {
+    // A buffer with nothing in it.
+    pub fn new(to: Stdout) -> Output {
+        Output {
+            gathered: [0; ROOM],
+            at: 0,
+            to,
+            went: Ok(()),
         }
-        out.at = 0;
     }
-    out.gathered[out.at] = b;
-    out.at += 1;
-}
 
-// Puts some bytes.
-pub fn bytes(s: &[u8], out: &mut Output) {
-    for b in s {
-        byte(*b, out);
+    // Puts a byte. A full buffer is written out first.
+    pub fn byte(&mut self, b: u8) {
+        if self.at == ROOM {
+            if self.went.is_ok() {
+                self.went = self.to.write_all(&self.gathered);
+            }
+            self.at = 0;
+        }
+        self.gathered[self.at] = b;
+        self.at += 1;
     }
-}
 
-// Puts a number in decimal.
-pub fn number(x: u64, out: &mut Output) {
-    let mut digits = Buffer::new();
-    bytes(digits.format(x).as_bytes(), out);
-}
-
-// Puts a signed number in decimal.
-pub fn signed(x: i64, out: &mut Output) {
-    let mut digits = Buffer::new();
-    bytes(digits.format(x).as_bytes(), out);
-}
-
-// Puts a blank and a byte.
-pub fn mark(b: u8, out: &mut Output) {
-    bytes(&[b' ', b], out);
-}
-
-// Puts a blank and a number.
-pub fn field(x: u64, out: &mut Output) {
-    byte(b' ', out);
-    number(x, out);
-}
-
-// Puts a colon and a number.
-pub fn part(x: u64, out: &mut Output) {
-    byte(b':', out);
-    number(x, out);
-}
-
-// Puts a blank and the number that says that a call was accepted.
-pub fn accepted(out: &mut Output) {
-    field(0, out);
-}
-
-// Puts a blank and the number of a refusal.
-pub fn refused(why: Refusal, out: &mut Output) {
-    field(refusals::number(why) as u64, out);
-}
-
-// Puts an exclamation mark and the number of a refusal.
-pub fn barred(why: Refusal, out: &mut Output) {
-    byte(b'!', out);
-    number(refusals::number(why) as u64, out);
-}
-
-// Ends the line.
-pub fn end(out: &mut Output) {
-    byte(b'\n', out);
-}
-
-// The line of a record that asks for no call that there is.
-pub fn unknown(out: &mut Output) {
-    bytes(b"?\n", out);
-}
-
-// Writes out what is gathered, and tells how all writes went.
-pub fn flush(out: Output) -> io::Result<()> {
-    let Output {
-        gathered,
-        at,
-        mut to,
-        went,
-    } = out;
-    went?;
-    write_start(at, &gathered, &mut to)
-}
-
-// Writes the first bytes of some, which are at most as many as there are.
-fn write_start(n: usize, s: &[u8], to: &mut Stdout) -> io::Result<()> {
-    if n <= s.len() {
-        to.write_all(&s[..n])?;
+    // Puts some bytes.
+    pub fn bytes(&mut self, s: &[u8]) {
+        for b in s {
+            self.byte(*b);
+        }
     }
-    Ok(())
+
+    // Puts a number in decimal.
+    pub fn number(&mut self, x: u64) {
+        self.bytes(Buffer::new().format(x).as_bytes());
+    }
+
+    // Puts a signed number in decimal.
+    pub fn signed(&mut self, x: i64) {
+        self.bytes(Buffer::new().format(x).as_bytes());
+    }
+
+    // Puts a blank and a byte.
+    pub fn mark(&mut self, b: u8) {
+        self.bytes(&[b' ', b]);
+    }
+
+    // Puts a blank and a number.
+    pub fn field(&mut self, x: u64) {
+        self.byte(b' ');
+        self.number(x);
+    }
+
+    // Puts a colon and a number.
+    pub fn part(&mut self, x: u64) {
+        self.byte(b':');
+        self.number(x);
+    }
+
+    // Puts a blank and the number that says that a call was accepted.
+    pub fn accepted(&mut self) {
+        self.field(0);
+    }
+
+    // Puts a blank and the number of a refusal.
+    pub fn refused(&mut self, why: Refusal) {
+        self.field(refusals::number(why) as u64);
+    }
+
+    // Puts an exclamation mark and the number of a refusal.
+    pub fn barred(&mut self, why: Refusal) {
+        self.byte(b'!');
+        self.number(refusals::number(why) as u64);
+    }
+
+    // Ends the line.
+    pub fn end(&mut self) {
+        self.byte(b'\n');
+    }
+
+    // The line of a record that asks for no call that there is.
+    pub fn unknown(&mut self) {
+        self.bytes(b"?\n");
+    }
+
+    // Writes out what is gathered, and tells how all writes went.
+    pub fn flush(self) -> io::Result<()> {
+        let Output {
+            gathered,
+            at,
+            mut to,
+            went,
+        } = self;
+        went?;
+        to.write_all(&gathered[..at])
+    }
 }

@@ -9,11 +9,9 @@ use timers::Call;
 
 // What the set is, which call is made, and what it answers.
 fn call(rt: &impl Print, what: &[u8], name: &[u8], s: Set, c: Call) -> io::Result<()> {
-    tell::text(rt, what)?;
-    tell::text(rt, name)?;
     let mut list = [0u64; heap::CAP];
-    let a = timers::perform(s, c, &mut list);
-    tell::reply(rt, a.reply)
+    tell::text(rt, what)?;
+    tell::answer(rt, name, timers::perform(s, c, &mut list).answer)
 }
 
 // The calls that take neither a handle nor a reading.

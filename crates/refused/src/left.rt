@@ -10,15 +10,13 @@ use std::io;
 // What is asked, and what a time left of a handle answers.
 fn time_left(rt: &impl Print, what: &[u8], s: Set, h: Handle, reading: u64) -> io::Result<()> {
     tell::text(rt, what)?;
-    tell::text(rt, b"time left ")?;
-    tell::left(rt, timers::left::time_left(s, h, reading))
+    tell::answer(rt, b"time left ", timers::left::time_left(s, h, reading))
 }
 
 // What is asked, and what a least left answers.
 fn least_left(rt: &impl Print, what: &[u8], s: Set, reading: u64) -> io::Result<()> {
     tell::text(rt, what)?;
-    tell::text(rt, b"least left ")?;
-    tell::least(rt, timers::left::least_left(s, reading))
+    tell::answer(rt, b"least left ", timers::left::least_left(s, reading))
 }
 
 // Both queries, the first of 0:0.
@@ -47,7 +45,7 @@ fn past() -> Handle {
 
 // The set after a cancel of 0:0.
 fn cancelled(s: Set) -> Set {
-    timers::cancel(s, handle(0, 0)).set
+    timers::cancel(s, handle(0, 0)).state
 }
 
 // Handles that are dead: past the places, of a free place, with another use number, and cancelled.

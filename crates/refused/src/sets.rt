@@ -1,6 +1,6 @@
 // What the calls and the queries are made on: sets of one timer, and handles.
 use heap::Place;
-use state::{Handle, Held, Life, Set, Timer, Waiting};
+use state::{Handle, Life, Set, Timer, Waiting};
 
 // The handle of a place with a use number.
 pub fn handle(place: u16, uses: u32) -> Handle {
@@ -16,7 +16,7 @@ pub fn with_timer(word: u32, due: u64) -> Set {
     s.timers[0] = Timer {
         life: Life::Live { word, due },
         waiting: Waiting::No,
-        held: Held::Nothing,
+        held: None,
         uses: 0,
     };
     s
@@ -24,12 +24,10 @@ pub fn with_timer(word: u32, due: u64) -> Set {
 
 // The set closed.
 pub fn closed(s: Set) -> Set {
-    let mut g = s;
-    g.closed = true;
-    g
+    Set { closed: true, ..s }
 }
 
 // The set after an add.
 pub fn added(s: Set, due: u64) -> Set {
-    timers::add(s, due).set
+    timers::add(s, due).state
 }

@@ -7,58 +7,41 @@
 use heap::CAP;
 use records::LINE;
 use state::Set;
-use std::io;
 use std::io::{Read, Write};
+use std::{fmt, io};
 
-// Why a replay stops, or that it goes on.
+// How an input ends: after its last record, inside a record, or in a read that fails.
 #[derive(Clone, Copy)]
-enum Course {
-    GoesOn,
-    Ended,
-    EndedShort,
+enum Ending {
+    Whole,
+    Short,
     FailedRead,
 }
 
-// A record, how many of its bytes came, and whether a read failed before the others did.
-#[derive(Clone, Copy)]
-struct Record {
-    bytes: [u8; 14],
-    came: usize,
-    failed: bool,
+impl fmt::Display for Ending {
+    // The last line of a replay, without its newline.
+    fn fmt<W: fmt::Write>(&self, f: &mut fmt::Formatter<W>) -> fmt::Result {
+        f.write_str(match self {
+            Ending::Whole => "end",
+            Ending::Short => "end short",
+            Ending::FailedRead => "failed read",
+        })
+    }
 }
 
-// Reads one record, in the pieces in which it comes.
-fn read_record<R: Read>(input: &mut R) -> Record {
+// Reads one record, in the pieces in which it comes, or finds how the input ends.
+fn read_record<R: Read>(input: &mut R) -> Result<[u8; 14], Ending> {
     let mut bytes = [0u8; 14];
     let mut came = 0;
-    let mut failed = false;
-    while came < 14 {
+    while came < bytes.len() {
         match input.read(&mut bytes[came..]) {
-            Ok(0) => break,
+            Ok(0) if came == 0 => return Err(Ending::Whole),
+            Ok(0) => return Err(Ending::Short),
             Ok(more) => came += more,
-            Err(_) => {
-                failed = true;
-                break;
-            }
+            Err(_) => return Err(Ending::FailedRead),
         }
     }
-    Record {
-        bytes,
-        came,
-        failed,
-    }
-}
-
-// Why a replay stops at a record that did not come whole.
-fn stopped(came: usize, failed: bool) -> Course {
-    if failed {
-        return Course::FailedRead;
-    }
-    if came == 0 {
-        Course::Ended
-    } else {
-        Course::EndedShort
-    }
+    Ok(bytes)
 }
 
 // Answers one record with its line.
@@ -71,49 +54,25 @@ fn answered<W: Write>(s: &mut Set, bytes: [u8; 14], output: &mut W) -> io::Resul
     output.write_all(&line[..n])
 }
 
-// Reads one record, and answers it where it came whole.
-fn passed<R: Read, W: Write>(s: &mut Set, input: &mut R, output: &mut W) -> io::Result<Course> {
-    let r = read_record(input);
-    if r.came < 14 {
-        return Ok(stopped(r.came, r.failed));
-    }
-    answered(s, r.bytes, output)?;
-    Ok(Course::GoesOn)
-}
-
-// Replays all records, and answers why it stopped. A proved loop has to end, and nothing says that the input does; so it counts its
+// Replays all records, and answers how the input ends. A proved loop has to end, and nothing says that the input does; so it counts its
 // turns, up to a number that no input uses up.
-fn replayed<R: Read, W: Write>(input: &mut R, output: &mut W) -> io::Result<Course> {
+fn replayed<R: Read, W: Write>(input: &mut R, output: &mut W) -> io::Result<Option<Ending>> {
     let mut s = state::fresh();
     for _ in 0..u64::MAX {
-        let course = passed(&mut s, input, output)?;
-        match course {
-            Course::GoesOn => {}
-            _ => return Ok(course),
+        match read_record(input) {
+            Ok(bytes) => answered(&mut s, bytes, output)?,
+            Err(ending) => return Ok(Some(ending)),
         }
     }
-    Ok(Course::GoesOn)
-}
-
-// Writes the first line.
-fn began<W: Write>(output: &mut W) -> io::Result<()> {
-    writeln!(output, "timers {CAP}")
-}
-
-// Writes the last line, where there is one to write.
-fn concluded<W: Write>(course: Course, output: &mut W) -> io::Result<()> {
-    match course {
-        Course::GoesOn => Ok(()),
-        Course::Ended => output.write_all(b"end\n"),
-        Course::EndedShort => output.write_all(b"end short\n"),
-        Course::FailedRead => output.write_all(b"failed read\n"),
-    }
+    Ok(None)
 }
 
 fn main(rt: HostRuntime) -> io::Result<()> {
     let mut input = rt.stdin();
     let mut output = rt.stdout();
-    began(&mut output)?;
-    let course = replayed(&mut input, &mut output)?;
-    concluded(course, &mut output)
+    writeln!(output, "timers {CAP}")?;
+    if let Some(ending) = replayed(&mut input, &mut output)? {
+        writeln!(output, "{ending}")?;
+    }
+    Ok(())
 }

@@ -3,52 +3,47 @@
 #![tactic(auto)]
 
 use heap::Place;
+use refusals::Refusal;
 use state::{Handle, Set};
 use std::io;
 use timers::Reply;
 
-// Writes what a call answered, and ends the line.
-fn tell(rt: &impl Print, reply: Reply) -> io::Result<()> {
-    match reply {
-        Reply::Added(handle) => println!(rt; "{}:{}", handle.place.0, handle.uses),
-        Reply::Refused(why) => println!(rt; "refused {}", refusals::number(why)),
-        Reply::Done => println!(rt; "done"),
-        _ => println!(rt; "something else"),
+// Writes a call and what it answered, and ends the line.
+fn tell(rt: &impl Print, call: &str, answer: Result<Reply, Refusal>) -> io::Result<()> {
+    match answer {
+        Ok(Reply::Added(handle)) => println!(rt; "{call} {}:{}", handle.place.0, handle.uses),
+        Ok(Reply::Done) => println!(rt; "{call} done"),
+        Ok(_) => println!(rt; "{call} something else"),
+        Err(why) => println!(rt; "{call} refused {}", refusals::number(why)),
     }
 }
 
 // Adds a timer, tells the answer, and hands the set on.
 fn add(rt: &impl Print, s: Set) -> io::Result<Set> {
-    print!(rt; "add ")?;
     let a = timers::add(s, 10);
-    tell(rt, a.reply)?;
-    Ok(a.set)
+    tell(rt, "add", a.answer)?;
+    Ok(a.state)
 }
 
 // Adds as many timers as there are places.
-fn filled(rt: &impl Print, s: Set) -> io::Result<Set> {
-    let mut g = s;
+fn filled(rt: &impl Print, mut s: Set) -> io::Result<Set> {
     for _ in 0..heap::CAP {
-        g = add(rt, g)?;
+        s = add(rt, s)?;
     }
-    Ok(g)
+    Ok(s)
 }
 
 fn main(rt: HostRuntime) -> io::Result<()> {
     let s = add(&rt, filled(&rt, state::fresh())?)?;
-    print!(rt; "cancel ")?;
-    let c = timers::cancel(
-        s,
-        Handle {
-            place: Place(5),
-            uses: 0,
-        },
-    );
-    tell(&rt, c.reply)?;
-    let u = add(&rt, c.set)?;
-    print!(rt; "drain ")?;
+    let fifth = Handle {
+        place: Place(5),
+        uses: 0,
+    };
+    let c = timers::cancel(s, fifth);
+    tell(&rt, "cancel", c.answer)?;
+    let u = add(&rt, c.state)?;
     let d = timers::drain(u);
-    tell(&rt, d.reply)?;
-    add(&rt, d.set)?;
+    tell(&rt, "drain", d.answer)?;
+    add(&rt, d.state)?;
     Ok(())
 }
