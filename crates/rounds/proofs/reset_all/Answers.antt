@@ -1,14 +1,11 @@
 -- At each turn the words to go make of the run what all of them make of the first one.
 -- Assumes nothing.
-use Rattle.std.proofs.Common.{◌≡◌, ℕ, ◌+◌, ◌-◌, ◌<◌, sym, ap, ◌∙◌, arith, length-take}
+use Rattle.std.proofs.Common.{ℕ, ◌+◌, ◌-◌, ◌<◌, sym, ap, ◌∙◌, arith, length-take}
 use Rattle.std.proofs.lemmas.List.{get_or-take}
 use Rattle.rounds.specs.declared.Run.{Run}
 use Rattle.rounds.specs.Rules.{reset_of, reset_from}
 use Rattle.rounds.proofs.Walks.{reset_goes, reset_done}
 use Rattle.rounds.proofs.reset_all.Goals as goal
-
-pub loop-word-init : goal.loop-word-init
-loop-word-init c = let m : c.args.count - 0 ≡ c.args.count = omega arith in ap (λ (n : ℕ). reset_from n c.args.list.now 0 c.args.run) m
 
 pub loop-word-preserved : goal.loop-word-preserved
 loop-word-preserved c =

@@ -1,17 +1,12 @@
 -- At each turn the rounds to go answer what all of them answer from the start.
 -- Assumes nothing.
-use Rattle.std.proofs.Common.{◌≡◌, ℕ, ◌+◌, ◌-◌, replicate, sym, ap, ◌∙◌, arith}
+use Rattle.std.proofs.Common.{ℕ, ◌+◌, ◌-◌, replicate, sym, ap, ◌∙◌, arith}
 use Rattle.heap.specs.Capacity.{cap}
 use Rattle.state.specs.declared.Set.{Set}
 use Rattle.rounds.specs.Rules.{wrap, least_of, Lent, rounds_from, rounds_of}
 use Rattle.rounds.specs.Promises.{lent}
 use Rattle.rounds.proofs.Walks.{least_min, rounds_goes, rounds_done}
 use Rattle.rounds.proofs.rounds_run.Goals as goal
-
-pub loop-init : goal.loop-init
-loop-init c =
-    let m : c.args.turns - 0 ≡ c.args.turns = omega arith in
-    ap (λ (n : ℕ). rounds_from n c.min-step.result 0 (lent (record { set = c.started.result; last = cap; sum = 0 }) (replicate cap 0))) m
 
 pub loop-preserved : goal.loop-preserved
 loop-preserved c =

@@ -36,8 +36,5 @@ loop-preserved c =
     subst (λ (g : Set). Emptying c.args.s g (c.args.s.heap.len - (c.loop.counter + 1))) (sym (turned c))
     (goes_on c.loop.invariant (omega arith))
 
-pub pop_sound-requires : goal.pop_sound-requires
-pop_sound-requires c = c.loop.invariant.heap_sound
-
 pub returns : goal.returns
 returns c = sym (empty_done _ (omega arith)) ∙ c.loop.invariant.rest

@@ -19,9 +19,6 @@ goes_on {g = g} {k = k} v m e = record {
   sound = settled_heap g _ v.sound;
 }
 
-pub settled-s-requires : goal.settled-s-requires
-settled-s-requires c = c.loop.invariant.sound
-
 pub loop-preserved : goal.loop-preserved
 loop-preserved c =
     subst (λ (g : Set). Draining c.args.s g (cap - (c.loop.counter + 1))) (sym c.settled-s.ensures)
