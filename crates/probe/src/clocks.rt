@@ -1,8 +1,9 @@
 // The calls on a clock alone, and the lines that tell of them.
 use crate::record::Record;
 use crate::text::Output;
-use clock::{Change, Changed, Clock};
-use refusals::time::Time;
+use clock::Clock;
+use refusals::Refusal;
+use refusals::outcome::Outcome;
 
 // A call on a clock.
 #[derive(Clone, Copy)]
@@ -45,23 +46,23 @@ pub fn told(c: &mut Clock, r: Record, out: &mut Output) {
     shown(*c, out);
 }
 
-// Takes over the clock that a change left, and puts what the change answered.
-fn changed(c: &mut Clock, after: Changed, out: &mut Output) {
-    *c = after.clock;
+// Takes over the clock that a change left, and puts whether it was accepted.
+fn changed(c: &mut Clock, after: Outcome<Clock, ()>, out: &mut Output) {
+    *c = after.state;
     match after.answer {
-        Change::Done => out.accepted(),
-        Change::Refused(why) => out.refused(why),
+        Ok(()) => out.accepted(),
+        Err(why) => out.refused(why),
     }
 }
 
 // What a reading answered.
-fn read(t: Time, out: &mut Output) {
-    match t {
-        Time::At(time) => {
+fn read(time: Result<u64, Refusal>, out: &mut Output) {
+    match time {
+        Ok(time) => {
             out.accepted();
             out.field(time)
         }
-        Time::Refused(why) => out.refused(why),
+        Err(why) => out.refused(why),
     }
 }
 

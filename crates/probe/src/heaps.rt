@@ -1,9 +1,9 @@
 // The calls on a heap alone, and the lines that tell of them.
 use crate::record::Record;
 use crate::text::Output;
-use heap::{
-    AfterPush, AfterRemove, Entry, Heap, Peeked, Place, Pushed, Removed, SlabSlot, Slot, SlotState,
-};
+use heap::{Entry, Heap, Place, Pushed, Removed, SlabSlot, Slot, SlotState};
+use refusals::Refusal;
+use refusals::outcome::Outcome;
 
 // A call on a heap.
 #[derive(Clone, Copy)]
@@ -46,51 +46,50 @@ pub fn told(h: &mut Heap, r: Record, out: &mut Output) {
 }
 
 // Takes over the heap that a push left, and puts what it answered: the slot and the swaps.
-fn pushed(h: &mut Heap, after: AfterPush, out: &mut Output) {
-    *h = after.heap;
+fn pushed(h: &mut Heap, after: Outcome<Heap, Pushed>, out: &mut Output) {
+    *h = after.state;
     match after.answer {
-        Pushed::Done { slot, swaps } => {
+        Ok(Pushed { slot, swaps }) => {
             out.accepted();
             out.field(slot.0 as u64);
             out.field(swaps as u64)
         }
-        Pushed::Refused(why) => out.refused(why),
+        Err(why) => out.refused(why),
     }
 }
 
 // Takes over the heap that a removal by slot left, and puts what it answered: the deadline and the swaps.
-fn removed(h: &mut Heap, after: AfterRemove, out: &mut Output) {
-    *h = after.heap;
+fn removed(h: &mut Heap, after: Outcome<Heap, Removed>, out: &mut Output) {
+    *h = after.state;
     match after.answer {
-        Removed::Done { entry, swaps } => {
+        Ok(Removed { entry, swaps }) => {
             out.accepted();
             out.field(entry.at);
             out.field(swaps as u64)
         }
-        Removed::Nothing => nothing(out),
-        Removed::Refused(why) => out.refused(why),
+        Err(why) => out.refused(why),
     }
 }
 
 // Takes over the heap that a pop left, and puts what it answered: the deadline, the slot and the swaps, or nothing.
-fn popped(h: &mut Heap, after: AfterRemove, out: &mut Output) {
-    *h = after.heap;
+fn popped(h: &mut Heap, after: Outcome<Heap, Option<Removed>>, out: &mut Output) {
+    *h = after.state;
     match after.answer {
-        Removed::Done { entry, swaps } => {
+        Ok(Some(Removed { entry, swaps })) => {
             head(entry, out);
             out.field(swaps as u64)
         }
-        Removed::Nothing => nothing(out),
-        Removed::Refused(why) => out.refused(why),
+        Ok(None) => nothing(out),
+        Err(why) => out.refused(why),
     }
 }
 
 // What a peek answered: the deadline and the slot, or nothing.
-fn peeked(p: Peeked, out: &mut Output) {
-    match p {
-        Peeked::Head(entry) => head(entry, out),
-        Peeked::Nothing => nothing(out),
-        Peeked::Refused(why) => out.refused(why),
+fn peeked(answer: Result<Option<Entry>, Refusal>, out: &mut Output) {
+    match answer {
+        Ok(Some(entry)) => head(entry, out),
+        Ok(None) => nothing(out),
+        Err(why) => out.refused(why),
     }
 }
 

@@ -4,9 +4,7 @@ use crate::text::Output;
 use heap::{Heap, Place, Slot};
 use interval::Policy;
 use refusals::Refusal;
-use refusals::time::Left;
 use state::{Handle, Life, Set, Timer, Waiting};
-use timers::left::Least;
 use timers::{Call, Reply};
 use word::Polled;
 
@@ -40,8 +38,14 @@ pub fn told(s: &mut Set, r: Record, out: &mut Output) {
 fn performed(s: &mut Set, call: Call, out: &mut Output) {
     let mut list = [0u64; heap::CAP];
     let a = timers::perform(*s, call, &mut list);
-    *s = a.set;
-    answer(a.reply, &list, out);
+    *s = a.state;
+    match a.answer {
+        Ok(reply) => {
+            out.accepted();
+            values(reply, &list, out)
+        }
+        Err(why) => out.refused(why),
+    }
 }
 
 // Gives a live timer another state word, and puts whether that was accepted.
@@ -119,55 +123,40 @@ fn with_word(s: Set, handle: Handle, word: u32) -> Result<Set, Refusal> {
     Ok(g)
 }
 
-// What a call answered.
-fn answer(reply: Reply, list: &[u64; heap::CAP], out: &mut Output) {
+// The values of an accepted call.
+fn values(reply: Reply, list: &[u64; heap::CAP], out: &mut Output) {
     match reply {
         Reply::Added(handle) => {
-            out.accepted();
             out.field(handle.place.0 as u64);
             out.field(handle.uses as u64)
         }
+        Reply::Done => {}
         Reply::Ran { reported, popped } => {
-            out.accepted();
             out.field(reported as u64);
             out.field(popped as u64);
             reports(list, reported, out)
         }
-        Reply::WakeAt(wake) => {
-            out.accepted();
-            out.field(wake)
-        }
-        Reply::NoWake => {
-            out.accepted();
-            out.mark(b'-')
-        }
-        Reply::Found(polled) => {
-            out.accepted();
-            found(polled, out)
-        }
-        Reply::Ticked(due) => {
-            out.accepted();
-            out.field(due)
-        }
-        _ => done(reply, out),
+        Reply::Wake(next) => wake(next, out),
+        Reply::Found(polled) => found(polled, out),
+        Reply::Ticked(due) => out.field(due),
     }
 }
 
-// What a call that answers no values answered.
-fn done(reply: Reply, out: &mut Output) {
-    match reply {
-        Reply::Refused(why) => out.refused(why),
-        _ => out.accepted(),
+// A next wake, or none.
+fn wake(next: Option<u64>, out: &mut Output) {
+    match next {
+        Some(time) => out.field(time),
+        None => out.mark(b'-'),
     }
 }
 
 // What a poll found.
 fn found(polled: Polled, out: &mut Output) {
-    match polled {
-        Polled::Pending => out.field(0),
-        Polled::Fired => out.field(1),
-        Polled::Gone => out.field(2),
-    }
+    out.field(match polled {
+        Polled::Pending => 0,
+        Polled::Fired => 1,
+        Polled::Gone => 2,
+    });
 }
 
 // The handles that were reported, each as place and use number.
@@ -191,7 +180,7 @@ fn name(word: u64, out: &mut Output) {
 // Shows a set, with how long is left at a reading, and ends the line.
 fn shown(s: &Set, reading: u64, out: &mut Output) {
     out.mark(b'|');
-    wake(s, out);
+    next_wake(s, out);
     least(timers::left::least_left(*s, reading), out);
     out.mark(b'|');
     waiting(s, out);
@@ -212,22 +201,21 @@ fn entries(h: &Heap, out: &mut Output) {
     }
 }
 
-// The next wake.
-fn wake(s: &Set, out: &mut Output) {
-    match timers::next_wake(*s).reply {
-        Reply::WakeAt(wake) => out.field(wake),
-        Reply::NoWake => out.mark(b'-'),
+// What a next wake answers.
+fn next_wake(s: &Set, out: &mut Output) {
+    match timers::next_wake(*s).answer {
+        Ok(Reply::Wake(next)) => wake(next, out),
         _ => out.mark(b'?'),
     }
 }
 
 // The least that is left, or none.
-fn least(l: Least, out: &mut Output) {
+fn least(least: Result<Option<i64>, Refusal>, out: &mut Output) {
     out.byte(b' ');
-    match l {
-        Least::Nothing => out.byte(b'-'),
-        Least::Nanos(nanos) => out.signed(nanos),
-        Least::Refused(why) => out.barred(why),
+    match least {
+        Ok(Some(nanos)) => out.signed(nanos),
+        Ok(None) => out.byte(b'-'),
+        Err(why) => out.barred(why),
     }
 }
 
@@ -275,11 +263,11 @@ fn place(p: u64, t: Timer, out: &mut Output) {
 }
 
 // How long a timer has to go.
-fn left(l: Left, out: &mut Output) {
+fn left(left: Result<i64, Refusal>, out: &mut Output) {
     out.byte(b':');
-    match l {
-        Left::Nanos(nanos) => out.signed(nanos),
-        Left::Refused(why) => out.barred(why),
+    match left {
+        Ok(nanos) => out.signed(nanos),
+        Err(why) => out.barred(why),
     }
 }
 

@@ -48,9 +48,9 @@ fn read_record<R: Read>(input: &mut R) -> Result<[u8; 14], Ending> {
 fn answered<W: Write>(s: &mut Set, bytes: [u8; 14], output: &mut W) -> io::Result<()> {
     let mut list = [0u64; CAP];
     let a = records::replay(*s, bytes, &mut list);
-    *s = a.set;
+    *s = a.state;
     let mut line = [0u8; LINE];
-    let n = records::write_line(a.line, &list, &mut line);
+    let n = records::write_line(a.answer, &list, &mut line);
     output.write_all(&line[..n])
 }
 
