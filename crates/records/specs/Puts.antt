@@ -15,6 +15,10 @@ use Rattle.records.specs.declared.text.Pen.{Pen}
 use Rattle.records.specs.Answers.{said_wake, said_line}
 use Rattle.records.specs.Lines.{decimal, spaced, name_text, handles_text, wake_text, report_text, values_text, answer_text, line_of, number_room, handle_room, report_room, answer_room, room}
 
+-- there is room for n bytes more
+abbrev pub HasRoom : ℕ → Pen → Type 0
+HasRoom n p = p.at + n ≤ length p.out.now
+
 -- the text t, of at most k bytes, is stored in the bytes of p from where it stands on, byte by byte, which gives those of p', and p'
 -- stands behind it
 pub record Puts (k : ℕ) (p : Pen) (t : List ℕ) (p' : Pen) : Type 0 where

@@ -3,7 +3,7 @@
 ghost use Rattle.std.specs.Prelude.{◌+◌, ◌*◌, ◌≤◌, ◌<◌, length};
 ghost use Rattle.heap.specs.Capacity.{cap};
 ghost use Rattle.records.specs.Lines.{decimal, number_room, handle_room, report_room, answer_room, room};
-ghost use Rattle.records.specs.Puts.{PutsLine, PutsAnswer, PutsValues, PutsReport, PutsHandles, PutsHandle, PutsWake, PutsRefusal, PutsNumber, PutsDigits, PutsTwo, PutsOne, Polls};
+ghost use Rattle.records.specs.Puts.{HasRoom, PutsLine, PutsAnswer, PutsValues, PutsReport, PutsHandles, PutsHandle, PutsWake, PutsRefusal, PutsNumber, PutsDigits, PutsTwo, PutsOne, Polls};
 
 use crate::{Line, Made};
 use refusals::Refusal;
@@ -20,9 +20,8 @@ pub struct Pen<'a> {
 
 impl Pen<'_> {
     // Puts a whole line.
-    pub fn line(&mut self, line: Line, list: &[u64])
-        requires list_len_bound { length list.now ≤ cap }
-        requires room_in_bounds { self.old.at + room ≤ length self.old.out.now }
+    pub fn line(&mut self, line: Line, list: &[u64; heap::CAP])
+        requires { HasRoom room self.old }
         ensures { PutsLine line list.now self.old self.new }
     {
         match line {
@@ -45,9 +44,8 @@ impl Pen<'_> {
     }
 
     // Puts what a call answered: 0 and the values, or the refusal.
-    fn answer(&mut self, reply: Result<Reply, Refusal>, wake: Option<u64>, list: &[u64])
-        requires list_len_bound { length list.now ≤ cap }
-        requires answer_room_in_bounds { self.old.at + answer_room ≤ length self.old.out.now }
+    fn answer(&mut self, reply: Result<Reply, Refusal>, wake: Option<u64>, list: &[u64; heap::CAP])
+        requires { HasRoom answer_room self.old }
         ensures { PutsAnswer reply wake list.now self.old self.new }
     {
         match reply {
@@ -60,9 +58,8 @@ impl Pen<'_> {
     }
 
     // Puts the values of an accepted call.
-    fn values(&mut self, values: Reply, wake: Option<u64>, list: &[u64])
-        requires list_len_bound { length list.now ≤ cap }
-        requires report_room_in_bounds { self.old.at + report_room cap ≤ length self.old.out.now }
+    fn values(&mut self, values: Reply, wake: Option<u64>, list: &[u64; heap::CAP])
+        requires { HasRoom (report_room cap) self.old }
         ensures { PutsValues values wake list.now self.old self.new }
     {
         match values {
@@ -71,7 +68,7 @@ impl Pen<'_> {
                 self.number(handle.uses as u64)
             }
             Reply::Done => {}
-            Reply::Ran { reported, .. } => self.report(&list[..reported.min(list.len())], wake),
+            Reply::Ran { reported, .. } => self.report(&list[..reported.min(heap::CAP)], wake),
             Reply::Wake(next) => self.wake(next),
             Reply::Found(p) => self.number(polled(p)),
             Reply::Ticked(t) => self.number(t),
@@ -80,7 +77,7 @@ impl Pen<'_> {
 
     // Puts what an advance or a turn reported: how many words, whom they name, and the next wake.
     fn report(&mut self, words: &[u64], wake: Option<u64>)
-        requires { self.old.at + report_room (length words.now) ≤ length self.old.out.now }
+        requires { HasRoom (report_room (length words.now)) self.old }
         ensures { PutsReport words.now wake self.old self.new }
     {
         self.number(words.len() as u64);
@@ -91,7 +88,7 @@ impl Pen<'_> {
 
     // Puts a blank and a next wake.
     fn wake(&mut self, wake: Option<u64>)
-        requires { self.old.at + number_room ≤ length self.old.out.now }
+        requires { HasRoom number_room self.old }
         ensures { PutsWake wake self.old self.new }
     {
         match wake {
@@ -102,7 +99,7 @@ impl Pen<'_> {
 
     // Puts whom words name, each behind a blank.
     fn handles(&mut self, words: &[u64])
-        requires { self.old.at + length words.now * handle_room ≤ length self.old.out.now }
+        requires { HasRoom (length words.now * handle_room) self.old }
         ensures { PutsHandles words.now self.old self.new }
     {
         for word in words {
@@ -112,7 +109,7 @@ impl Pen<'_> {
 
     // Puts a blank and the handle that a word names, or a question mark where it names none.
     fn handle(&mut self, word: u64)
-        requires { self.old.at + handle_room ≤ length self.old.out.now }
+        requires { HasRoom handle_room self.old }
         ensures { PutsHandle word self.old self.new }
     {
         match state::handle_of(word) {
@@ -127,7 +124,7 @@ impl Pen<'_> {
 
     // Puts a blank and the number of a refusal.
     fn refusal(&mut self, why: Refusal)
-        requires { self.old.at + number_room ≤ length self.old.out.now }
+        requires { HasRoom number_room self.old }
         ensures { PutsRefusal why self.old self.new }
     {
         self.number(refusals::number(why) as u64)
@@ -135,7 +132,7 @@ impl Pen<'_> {
 
     // Puts a blank and a number.
     fn number(&mut self, n: u64)
-        requires { self.old.at + number_room ≤ length self.old.out.now }
+        requires { HasRoom number_room self.old }
         ensures { PutsNumber n self.old self.new }
     {
         self.byte(b' ');
@@ -144,7 +141,7 @@ impl Pen<'_> {
 
     // Puts a number in decimal, where there is room for its digits.
     fn digits(&mut self, n: u64)
-        requires { self.old.at + length (decimal n) ≤ length self.old.out.now }
+        requires { HasRoom (length (decimal n)) self.old }
         ensures { PutsDigits n self.old self.new }
     {
         if n < 10 {
@@ -156,7 +153,7 @@ impl Pen<'_> {
 
     // Puts two bytes.
     fn two(&mut self, a: u8, b: u8)
-        requires { self.old.at + 2 ≤ length self.old.out.now }
+        requires { HasRoom 2 self.old }
         ensures { PutsTwo a b self.old self.new }
     {
         self.byte(a);
@@ -165,7 +162,7 @@ impl Pen<'_> {
 
     // Puts one byte.
     fn byte(&mut self, b: u8)
-        requires { self.old.at < length self.old.out.now }
+        requires { HasRoom 1 self.old }
         ensures { PutsOne b self.old self.new }
     {
         self.out[self.at] = b;
