@@ -1,9 +1,9 @@
 -- No function has a second answer: its promise is one equation for each thing that it leaves or answers.
 -- Assumes nothing.
-use mathlib.Core.Path.{sym, ◌∙◌}
+use mathlib.Core.Path.{◌≡◌, sym, ◌∙◌}
 use mathlib.Core.List.{List}
 use Prim.Native.Nat.{ℕ}
-use Rattle.std.specs.Prelude.{Option}
+use Rattle.std.specs.Prelude.{Option, ⊤}
 use Rattle.theory.specs.Promise.{NoSecond}
 use Rattle.heap.specs.declared.Entry.{Entry}
 use Rattle.heap.specs.declared.SlabSlot.{SlabSlot}
@@ -36,3 +36,7 @@ slot_at_no_second q r s p t = p ∙ sym t
 
 pub timer_at_no_second : NoSecond (λ (q : List ℕ × ℕ) (r : Option Timer). FindsTimer q.0 q.1 r)
 timer_at_no_second q r s p t = p ∙ sym t
+
+-- a record of room that is not in use is the one that its kind names
+pub unused_no_second : {A : Type 0} (blank : A) → NoSecond (λ (q : ⊤) (r : A). r ≡ blank)
+unused_no_second blank q r s p t = p ∙ sym t

@@ -35,16 +35,16 @@ among : (l t : List ℕ) (k n : ℕ) → t ≡ take n (drop k l) → (i : ℕ) �
 among l t k n e i h = ap (λ (s : List ℕ). get_or s i 0) e ∙ get_or-take n (drop k l) i 0 h ∙ get_or-drop k l i 0
 
 -- the place from the lower half of the first byte and the second, the use from four bytes, the value from eight
-pub read_off : (l s t : List ℕ) (p u v : ℕ) → get_or l 0 0 < 256 → get_or l 1 0 < 256 → u < 2 ^ 32 → v < 2 ^ 64
-    → s ≡ take 4 (drop 2 l) → t ≡ take 8 (drop 6 l)
-    → p ≡ from_be_bytes w16 (bit_and (get_or l 0 0) 15 ∷ get_or l 1 0 ∷ []) → u ≡ from_be_bytes w32 s → v ≡ from_be_bytes w64 t
+pub read_off : (l t : List ℕ) (p u v : ℕ) → get_or l 0 0 < 256 → get_or l 1 0 < 256 → u < 2 ^ 32 → v < 2 ^ 64
+    → t ≡ take 8 (drop 6 l)
+    → p ≡ from_be_bytes w16 (bit_and (get_or l 0 0) 15 ∷ get_or l 1 0 ∷ [])
+    → u ≡ from_be_bytes w32 (get_or l 2 0 ∷ get_or l 3 0 ∷ get_or l 4 0 ∷ get_or l 5 0 ∷ []) → v ≡ from_be_bytes w64 t
     → record { operation = get_or l 0 0 / 16; place = record { 0 = p }; uses = u; value = v } ≡ fields_of l
 unfolding fields_of
-read_off l s t p u v ha hb hu hv es et ep eu ev =
+read_off l t p u v ha hb hu hv et ep eu ev =
     let a : p ≡ get_or l 0 0 % 16 * 256 + get_or l 1 0 = omega (arith, ep, and_mask (get_or l 0 0) 4) in
-    let f = among l s 2 4 es in
     let g = among l t 6 8 et in
     let whole : ((get_or l 0 0 * 256 + get_or l 1 0) * 2 ^ 32 + u) * 2 ^ 64 + v ≡ joined 14 l =
-    omega (arith, eu, ev, f 0 (omega arith), f 1 (omega arith), f 2 (omega arith), f 3 (omega arith), g 0 (omega arith), g 1 (omega arith), g 2 (omega arith), g 3 (omega arith), g 4 (omega arith), g 5 (omega arith), g 6 (omega arith), g 7 (omega arith))
+    omega (arith, eu, ev, g 0 (omega arith), g 1 (omega arith), g 2 (omega arith), g 3 (omega arith), g 4 (omega arith), g 5 (omega arith), g 6 (omega arith), g 7 (omega arith))
     in
     rw a (sym (apart (get_or l 0 0) (get_or l 1 0) u v ha hb hu hv) ∙ ap split whole)

@@ -21,7 +21,7 @@ pub fn parted(bytes: [u8; 14]) -> Fields
     Fields {
         operation: bytes[0] >> 4,
         place: Place(u16::from_be_bytes([bytes[0] & 15, bytes[1]])),
-        uses: u32::from_be_bytes(bytes[2..6].try_into().unwrap()),
+        uses: u32::from_be_bytes([bytes[2], bytes[3], bytes[4], bytes[5]]),
         value: u64::from_be_bytes(bytes[6..].try_into().unwrap()),
     }
 }

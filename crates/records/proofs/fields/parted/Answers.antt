@@ -12,8 +12,7 @@ returns c =
     let l = c.args.bytes in
     let a : Fits w8 (get_or l 0 0) = search rules in
     let b : Fits w8 (get_or l 1 0) = search rules in
-    let s = rw c.unwrap.ensures at c.try_into.ensures.1 in
-    let t = rw c.unwrap-2.ensures at c.try_into-2.ensures.1 in
-    read_off l c.unwrap.result c.unwrap-2.result c.from_be_bytes.result c.from_be_bytes-2.result c.from_be_bytes-3.result
+    let t = rw c.unwrap.ensures at c.try_into.ensures.1 in
+    read_off l c.unwrap.result c.from_be_bytes.result c.from_be_bytes-2.result c.from_be_bytes-3.result
     a.fits b.fits c.from_be_bytes-2.type_inv c.from_be_bytes-3.type_inv
-    s.same t.same c.from_be_bytes.ensures c.from_be_bytes-2.ensures c.from_be_bytes-3.ensures
+    t.same c.from_be_bytes.ensures c.from_be_bytes-2.ensures c.from_be_bytes-3.ensures
