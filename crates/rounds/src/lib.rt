@@ -7,8 +7,7 @@
 // reading, and each turn finds exactly as many timers due as were asked for.
 #![tactic(auto)]
 
-ghost use Rattle.std.specs.Prelude.{◌≡◌, ◌≤◌};
-ghost use Rattle.heap.specs.Capacity.{cap};
+ghost use Rattle.std.specs.Prelude.{◌≡◌, length};
 ghost use Rattle.state.specs.Handles.{said_named};
 ghost use Rattle.timers.specs.Calls.{said};
 ghost use Rattle.rounds.specs.Rules.{mixed_of, counts_in, start_of, reset_by, reset_of, reset_from};
@@ -67,8 +66,7 @@ fn round(run: Run, reading: u64, list: &mut [u64; heap::CAP]) -> Run
             sum,
             ..run
         },
-        list,
-        c.reported.min(heap::CAP),
+        &list[..c.reported.min(heap::CAP)],
     )
 }
 
@@ -83,12 +81,11 @@ fn started() -> Set
     timers::drain(g).state
 }
 
-// Resets the first `count` timers of a report list, each to the deadline after the last one.
-fn reset_all(mut run: Run, list: &[u64; heap::CAP], count: usize) -> Run
-    requires { count ≤ cap }
-    ensures { result ≡ reset_from count list.now 0 run }
+// Resets the timers that are reported, each to the deadline after the last one.
+fn reset_all(mut run: Run, words: &[u64]) -> Run
+    ensures { result ≡ reset_from (length words.now) words.now 0 run }
 {
-    for word in &list[..count] {
+    for word in words {
         run = reset_one(run, *word);
     }
     run
