@@ -6,12 +6,12 @@ use mathlib.Core.List.{List, [], ◌∷◌, ◌++◌}
 use Prim.Native.Nat.{ℕ, ◌+◌, ◌*◌, ◌<◌, ◌≤◌}
 use native.Mathlib.Numerals.{add-one}
 use native.Mathlib.Omega.{arith}
-use lib.ListN.{length, set, take}
+use lib.ListN.{length, set, take, length-set}
 use lib.Seq.{take_all, take-suc-set}
 use Rattle.theory.proofs.Tests.{and_left, and_right, is_false, true_false}
 use Rattle.digits.specs.Promises.{Puts}
 use Rattle.digits.specs.Rows.{rows, blocks, all_to}
-use Rattle.digits.proofs.Passing.{all_none, all_more, all_at}
+use Rattle.digits.proofs.Passing.{all_none, all_more, all_at, two_tests}
 use Rattle.digits.proofs.Rows.{rows_more, rows_none, blocks_none, blocks_more}
 use Rattle.digits.proofs.Stores.{puts_none, puts_then, puts_as}
 
@@ -52,6 +52,16 @@ module _ {A : Type 0} (f : A → List ℕ) (g : ℕ → A) (n w : ℕ) where
       let e : i ≡ n = omega (arith, v.within) in
       subst (λ (k : ℕ). Puts (k * w) out₀ at (blocks f (rows g k)) out next) e v.so_far
 
+-- one record more is read
+read_more : {A : Type 0} (of : ℕ → A) (xs : List A) {i : ℕ} (x : A) → take i xs ≡ rows of i → i < length xs → x ≡ of i
+    → take (i + 1) (set xs i x) ≡ rows of (i + 1)
+read_more of xs {i} x v q e =
+    ap (λ (k : ℕ). take k (set xs i x)) (add-one i)
+    ∙ take-suc-set xs i x q
+    ∙ (λ k. v k ++ (e k ∷ []))
+    ∙ sym (rows_more of i)
+    ∙ ap (rows of) (sym (add-one i))
+
 -- the first i records pass both tests, and are read
 pub record Taking {A : Type 0} (f g : ℕ → Bool) (of : ℕ → A) (xs : List A) (i : ℕ) : Type 0 where
   pub clear : all_to f i ≡ true
@@ -72,12 +82,7 @@ module _ {A : Type 0} (f g : ℕ → Bool) (of : ℕ → A) where
   taking_more {xs} {i} x v q t e = record {
     clear = all_more f i ∙ (λ k. v.clear k && and_left (f i) (g i) t k);
     within = all_more g i ∙ (λ k. v.within k && and_right (f i) (g i) t k);
-    so_far =
-        ap (λ (k : ℕ). take k (set xs i x)) (add-one i)
-        ∙ take-suc-set xs i x q
-        ∙ (λ k. v.so_far k ++ (e k ∷ []))
-        ∙ sym (rows_more of i)
-        ∙ ap (rows of) (sym (add-one i));
+    so_far = read_more of xs x v.so_far q e;
   }
 
   pub taking_all : {xs : List A} {i : ℕ} (n : ℕ) → Taking f g of xs i → i ≡ n → length xs ≡ n → ((all_to f n && all_to g n) ≡ true) × (xs ≡ rows of n)
@@ -85,3 +90,44 @@ module _ {A : Type 0} (f g : ℕ → Bool) (of : ℕ → A) where
     ap (λ (m : ℕ). all_to f m && all_to g m) (sym e) ∙ (λ k. v.clear k && v.within k),
     sym (take_all i xs (omega arith)) ∙ v.so_far ∙ ap (rows of) e,
   )
+
+-- the first i of n records are read whether they pass or not, and what is told beside them is whether all of them pass both tests
+pub record Finding {A : Type 0} (f g : ℕ → Bool) (of : ℕ → A) (n : ℕ) (fine : Bool) (xs : List A) (i : ℕ) : Type 0 where
+  pub within : i ≤ n
+  pub so_far : take i xs ≡ rows of i
+  pub long : length xs ≡ n
+  pub passes : fine ≡ (all_to f i && all_to g i)
+
+-- all are
+pub record Found {A : Type 0} (f g : ℕ → Bool) (of : ℕ → A) (n : ℕ) (fine : Bool) (xs : List A) : Type 0 where
+  pub passes : fine ≡ (all_to f n && all_to g n)
+  pub reads : xs ≡ rows of n
+
+module _ {A : Type 0} (f g : ℕ → Bool) (of : ℕ → A) (n : ℕ) where
+  pub finding_none : (xs : List A) → length xs ≡ n → Finding f g of n true xs 0
+  finding_none xs l = record {
+    within = omega arith;
+    so_far = sym (rows_none of);
+    long = l;
+    passes = λ k. sym (all_none f) k && sym (all_none g) k;
+  }
+
+  pub finding_more : {fine : Bool} {xs : List A} {i : ℕ} (b : Bool) (x : A) → Finding f g of n fine xs i → i < n → b ≡ (f i && g i)
+      → x ≡ of i → Finding f g of n (fine && b) (set xs i x) (i + 1)
+  finding_more {fine} {xs} {i} b x v q t e = record {
+    within = omega arith;
+    so_far = read_more of xs x v.so_far (omega (arith, v.long)) e;
+    long = length-set xs i x ∙ v.long;
+    passes =
+        (λ k. v.passes k && t k)
+        ∙ two_tests (all_to f i) (all_to g i) (f i) (g i)
+        ∙ (λ k. sym (all_more f i) k && sym (all_more g i) k);
+  }
+
+  pub finding_all : {fine : Bool} {xs : List A} {i : ℕ} → Finding f g of n fine xs i → n ≤ i → Found f g of n fine xs
+  finding_all {fine} {xs} {i} v q =
+      let e : i ≡ n = omega (arith, v.within) in
+      record {
+        passes = v.passes ∙ ap (λ (m : ℕ). all_to f m && all_to g m) e;
+        reads = sym (take_all i xs (omega (arith, v.long))) ∙ v.so_far ∙ ap (rows of) e;
+      }

@@ -5,15 +5,17 @@ use mathlib.Core.Bool.{true}
 use mathlib.Core.Option.{Option, none, some}
 use lib.ListN.{length}
 use Rattle.refusals.specs.declared.fault.Fault.{Fault}
+use Rattle.refusals.specs.declared.Refusal.{Refusal}
 use Rattle.refusals.specs.declared.Refusal.TheVariants.{Unsound}
-use Rattle.refusals.specs.Answer.{accepted, refuse, Outcome, kept}
+use Rattle.refusals.specs.Answer.{Answer, accepted, refuse, Outcome, kept}
 use Rattle.theory.specs.Chain.{clear}
-use Rattle.refusals.proofs.Refusing.{not_both}
+use Rattle.refusals.proofs.Refusing.{any_refusal, not_both}
 use Rattle.heap.specs.Capacity.{cap}
+use Rattle.heap.specs.declared.Entry.{Entry}
 use Rattle.heap.specs.declared.Heap.{Heap}
 use Rattle.heap.specs.Faults.{fault_of, consistent_of}
 use Rattle.heap.specs.Sound.{Sound}
-use Rattle.heap.specs.Calls.{passing, guard_of, guarded_by, guarded}
+use Rattle.heap.specs.Calls.{passing, guard_of, guarded_by, guarded, peek_by}
 use Rattle.heap.proofs.Testing.Test.{consistent_sound}
 
 -- let through: the test says yes
@@ -41,3 +43,10 @@ guarded_is {A} h o = go (fault_of h)
     go : (x : Option Fault) → guarded_by h o (passing x) ≡ judged h o x
     go none = refl
     go (some f) = refl
+
+-- turned away: the heap handed back, with the refusal
+pub turned : {A : Type 0} (h : Heap) (o : Outcome Heap A) (why : Refusal) → kept h (refuse why) ≡ guarded_by h o (refuse why)
+turned {A} h o why = any_refusal (λ (a : Answer A). kept h a) (guarded_by h o) (λ n. refl) (λ x. refl) why
+
+pub peek_turned : (a : Answer (Option Entry)) (why : Refusal) → refuse why ≡ peek_by a (refuse why)
+peek_turned a why = any_refusal (λ (b : Answer (Option Entry)). b) (peek_by a) (λ n. refl) (λ x. refl) why

@@ -1,13 +1,14 @@
 -- The heap test's rules, turn by turn: what one turn of a scan over positions or slots makes of its rule.
 -- Assumes nothing.
 use mathlib.Core.Path.{◌≡◌, sym, ap, ◌∙◌}
+use mathlib.Core.Logic.{◌≢◌}
 use mathlib.Core.Bool.{Bool, true, false, not}
 use mathlib.Core.Option.{Option, none, some}
 use Prim.Native.Nat.{ℕ, ◌+◌, ◌-◌, ◌<◌, ◌≤◌}
 use native.Mathlib.Omega.{arith}
 use lib.ListN.{get_or, take}
 use lib.Seq.{get_or-take}
-use borrow.Author.Tests.{lt-ltb, le-ltb, eq-eqb}
+use borrow.Author.Tests.{lt-ltb, le-ltb, eq-eqb, ne_eqb}
 use Rattle.theory.specs.First.{first_bad}
 use Rattle.theory.specs.Order.{parent}
 use Rattle.theory.proofs.First.{first_goes, first_here, first_done}
@@ -67,6 +68,14 @@ module _ (h : Heap) where
   pub position_by : (i : ℕ) {b : Bool} → slot_at h i < h.made → names (state_at h (slot_at h i)) i ≡ b → position_ok h i ≡ b
   unfolding position_ok
   position_by i l e = rw (lt-ltb (slot_at h i) h.made l) e
+
+  -- an entry fails whose slot is empty
+  pub position_empty : (i : ℕ) {n : Slot} → slot_at h i < h.made → state_at h (slot_at h i) ≡ Empty n → position_ok h i ≡ false
+  position_empty i l e = position_by i l (ap (λ x. names x i) e)
+
+  -- an entry fails whose slot names another position
+  pub position_other : (i : ℕ) {p : Pos} → slot_at h i < h.made → state_at h (slot_at h i) ≡ Full p → p.0 ≢ i → position_ok h i ≡ false
+  position_other i {p} l e d = position_by i l (ap (λ x. names x i) e ∙ ne_eqb p.0 i d)
 
   -- an entry passes whose slot is full and names its position
   pub position_yes : (i : ℕ) {p : Pos} → slot_at h i < h.made → state_at h (slot_at h i) ≡ Full p → p.0 ≡ i → position_ok h i ≡ true
