@@ -1,5 +1,6 @@
 pub mod ListLaws
 pub mod ScanLaws
+pub mod FaultLaws
 pub mod PlaceTest
 pub mod Parts
 pub mod Test

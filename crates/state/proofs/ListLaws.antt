@@ -105,13 +105,22 @@ module _ (s : Set) where
           (get_or-set_same met p.0 true false (omega (arith, w.room))) (λ y d. get_or-set_other met p.0 y true false d));
     }
 
-    -- with every waiting timer met, there is no fault where the list has ended, and one where it goes on
-    pub list_ended : (o : Code.Option ℕ) → n ≤ k → MatchOption at (o ≡ None) (λ p. o ≡ Some n) → walked o ≡ list_scan s
+    -- with every waiting timer met, there is no fault where the list has ended
+    pub list_ends : n ≤ k → at ≡ None → none ≡ list_scan s
     unfolding list_scan
+    list_ends l e = sym (walk_ends (waits_at s) (after_at s) cap _ (omega (arith, w.many, w.walk.within)) (ended e))
+
+    -- and one where it goes on
+    pub list_long : {p : Place} → n ≤ k → at ≡ Some p → some k ≡ list_scan s
+    unfolding list_scan
+    list_long l e = sym (walk_long (waits_at s) (after_at s) cap _ (omega (arith, w.many, w.walk.within)) waits_below (stands e))
+
+    -- so what the code says of the place where it stands then is right
+    pub list_ended : (o : Code.Option ℕ) → n ≤ k → MatchOption at (o ≡ None) (λ p. o ≡ Some n) → walked o ≡ list_scan s
     list_ended o l e = go at refl e
       where
         go : (a : Code.Option Place) → at ≡ a → MatchOption a (o ≡ None) (λ p. o ≡ Some n) → walked o ≡ list_scan s
-        go None q e = ap walked e ∙ sym (walk_ends (waits_at s) (after_at s) cap _ (omega (arith, w.many, w.walk.within)) (ended q))
+        go None q e = ap walked e ∙ list_ends l q
         go (Some p) q e =
             let m : n ≡ k = omega (arith, w.many, w.walk.within) in
-            ap walked e ∙ ap some m ∙ sym (walk_long (waits_at s) (after_at s) cap _ (omega (arith, m, w.many)) waits_below (stands q))
+            ap walked e ∙ ap some m ∙ list_long l q
