@@ -1,3 +1,4 @@
 pub mod Guarding
 pub mod Alive
+pub mod Lending
 pub mod Shortest
