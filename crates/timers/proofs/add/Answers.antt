@@ -1,16 +1,14 @@
 -- The lowest free place, where there is one, is touched as a live timer's, and named with its use number.
 -- Assumes nothing.
 use mathlib.Core.Path.{sym, ap, ◌∙◌}
-use native.Mathlib.Omega.{arith}
-use Rattle.refusals.proofs.Refusing.{not_both}
-use Rattle.timers.specs.Calls.{open_of, guarded, added_at, add_of}
-use Rattle.timers.proofs.Guarding.{opened_lets}
+use Rattle.timers.specs.Calls.{added_at, add_of}
+use Rattle.timers.proofs.Guarding.{opened_lets, stopped_both}
 use Rattle.timers.proofs.Alive.{free_place}
 use Rattle.timers.proofs.add.Goals as goal
 
 pub returns-in-Err : goal.returns-in-Err
-unfolding open_of guarded add_of
-returns-in-Err c = grind (arith, not_both)
+unfolding add_of
+returns-in-Err c = rw c.kept.ensures (sym (stopped_both _ _ c.in-Err.ensures _ _))
 
 pub returns-in_default-lowest_free : goal.returns-in_default-lowest_free
 unfolding add_of

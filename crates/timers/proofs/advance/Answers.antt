@@ -2,24 +2,26 @@
 -- the list is as it was.
 -- Assumes nothing.
 use mathlib.Core.Path.{sym, ap, ◌∙◌}
-use native.Mathlib.Omega.{arith}
 use borrow.Author.Tests.{le-leb}
 use borrow.Author.Rules.{rules}
 use lib.ListN.{length}
 use Rattle.theory.proofs.Stores.{unmapped}
-use Rattle.refusals.proofs.Refusing.{not_both}
 use Rattle.heap.specs.Capacity.{cap}
-use Rattle.timers.specs.Calls.{open_of, guarded, lent, rang, advance_of}
-use Rattle.timers.proofs.Guarding.{opened_lets, opened_sound}
+use Rattle.timers.specs.Calls.{lent, rang, advance_of, told}
+use Rattle.timers.proofs.Guarding.{opened_lets, opened_sound, passed_both}
+use Rattle.timers.proofs.Lending.{turned_away, too_short}
 use Rattle.timers.proofs.advance.Goals as goal
 
 pub returns-in-Err : goal.returns-in-Err
-unfolding open_of guarded advance_of
-returns-in-Err c = grind (arith, not_both)
+unfolding advance_of
+returns-in-Err c = let a = c.args in turned_away a.s a.list.now _ _ c.kept.result c.in-Err.ensures (ap told c.kept.ensures)
 
 pub returns-then-list-lt-CAP : goal.returns-then-list-lt-CAP
-unfolding open_of guarded advance_of
-returns-then-list-lt-CAP c = grind arith
+unfolding advance_of
+returns-then-list-lt-CAP c =
+    let a = c.args in
+    let k = c.kept-then-list-lt-CAP in
+    too_short a.s a.list.now _ k.result (passed_both a.s c.in_default.ensures) c.if-list-lt-CAP.true (ap told k.ensures)
 
 pub advanced-reported-requires-clause-sound : goal.advanced-reported-requires-clause-sound
 advanced-reported-requires-clause-sound c = opened_sound c.args.s (search (rules, unmapped)) (search (rules, unmapped)) c.in_default.ensures

@@ -3,15 +3,13 @@
 use mathlib.Core.Option.{some}
 use mathlib.Core.Path.{◌≡◌, sym, ap, ◌∙◌}
 use Prim.Native.Nat.{ℕ}
-use native.Mathlib.Omega.{arith}
 use borrow.Author.Rules.{rules}
 use Rattle.std.specs.Prelude.{Option, None, Some, Ok, MatchOption, IsSomeAnd}
 use Rattle.theory.proofs.Stores.{unmapped}
-use Rattle.refusals.proofs.Refusing.{not_both}
 use Rattle.heap.specs.Calls.{said_peek}
 use Rattle.heap.specs.declared.Entry.{Entry}
-use Rattle.timers.specs.Calls.{gives, wake, wake_by, wake_of, guard_of, guarded, next_wake_of}
-use Rattle.timers.proofs.Guarding.{guarded_lets, guarded_sound}
+use Rattle.timers.specs.Calls.{gives, wake, wake_by, wake_of, next_wake_of}
+use Rattle.timers.proofs.Guarding.{guarded_lets, guarded_sound, stopped}
 use Rattle.timers.proofs.next_wake.Goals as goal
 
 -- the wake is the head's deadline
@@ -33,5 +31,5 @@ returns c =
     ∙ ap (λ a. gives s (wake (wake_by a))) c.peek_sound.ensures ∙ sym (guarded_lets s s _ c.in_default.ensures))
 
 pub returns-in-Err : goal.returns-in-Err
-unfolding guard_of guarded next_wake_of
-returns-in-Err c = grind (arith, not_both)
+unfolding next_wake_of
+returns-in-Err c = rw c.kept.ensures (sym (stopped _ _ c.in-Err.ensures _ _))

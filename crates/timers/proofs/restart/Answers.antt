@@ -1,9 +1,10 @@
 -- A live timer is reset to what the interval's rule says, fired or not, or refused as that is.
 -- Assumes nothing.
+use mathlib.Core.Path.{sym}
 use native.Mathlib.Omega.{arith}
 use Rattle.refusals.proofs.Refusing.{not_both}
 use Rattle.timers.specs.Calls.{guarded, door_of, restart_at}
-use Rattle.timers.proofs.Alive.{live_place}
+use Rattle.timers.proofs.Alive.{live_place, door_stops}
 use Rattle.timers.proofs.restart.Goals as goal
 
 pub touched-requires : goal.touched-requires
@@ -18,5 +19,5 @@ unfolding guarded door_of restart_at
 returns-in-Err-restarted c = grind (arith, not_both)
 
 pub returns-in-Err : goal.returns-in-Err
-unfolding guarded door_of restart_at
-returns-in-Err c = grind (arith, not_both)
+unfolding restart_at
+returns-in-Err c = rw c.kept.ensures (sym (door_stops _ _ _ _ _ c.in-Err.ensures))

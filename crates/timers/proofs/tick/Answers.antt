@@ -5,12 +5,12 @@ use native.Mathlib.Omega.{arith}
 use Rattle.refusals.proofs.Refusing.{not_both}
 use Rattle.timers.specs.Calls.{guarded, door_of, tick_at}
 use Rattle.timers.proofs.Guarding.{door_lets}
-use Rattle.timers.proofs.Alive.{live_place}
+use Rattle.timers.proofs.Alive.{live_place, door_stops}
 use Rattle.timers.proofs.tick.Goals as goal
 
 pub returns-in-Err : goal.returns-in-Err
-unfolding guarded door_of tick_at
-returns-in-Err c = grind (arith, not_both)
+unfolding tick_at
+returns-in-Err c = rw c.kept.ensures (sym (door_stops _ _ _ _ _ c.in-Err.ensures))
 
 pub returns-then-not-fired : goal.returns-then-not-fired
 unfolding guarded door_of tick_at
