@@ -1,15 +1,12 @@
 -- A set that is let through is sound, so that its entries may be popped, and the list is long enough; else the call is refused and
 -- the list is as it was.
 -- Assumes nothing.
-use mathlib.Core.Path.{sym, ap, ◌∙◌}
-use borrow.Author.Tests.{le-leb}
+use mathlib.Core.Path.{ap, ◌∙◌}
 use borrow.Author.Rules.{rules}
-use lib.ListN.{length}
 use Rattle.theory.proofs.Stores.{unmapped}
-use Rattle.heap.specs.Capacity.{cap}
-use Rattle.timers.specs.Calls.{lent, rang, advance_of, told}
-use Rattle.timers.proofs.Guarding.{opened_lets, opened_sound, passed_both}
-use Rattle.timers.proofs.Lending.{turned_away, too_short}
+use Rattle.timers.specs.Calls.{rang, advance_of, told}
+use Rattle.timers.proofs.Guarding.{opened_sound, passed_both}
+use Rattle.timers.proofs.Lending.{turned_away, too_short, long_enough}
 use Rattle.timers.proofs.advance.Goals as goal
 
 pub returns-in-Err : goal.returns-in-Err
@@ -32,4 +29,4 @@ returns c =
     let a = c.args in
     rw c.given.ensures
     (ap rang c.advanced-reported.ensures
-    ∙ sym (opened_lets a.s (lent a.s a.list.now) _ c.in_default.ensures ∙ rw (le-leb cap (length a.list.now) c.if-list-lt-CAP.false)))
+    ∙ long_enough a.s a.list.now _ (passed_both a.s c.in_default.ensures) c.if-list-lt-CAP.false)
