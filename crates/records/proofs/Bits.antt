@@ -1,14 +1,34 @@
--- The fields of a record's 14 bytes, each from its own bytes.
+-- What masks and shifts come to in plain arithmetic, and the fields of a record's 14 bytes, each from its own bytes.
 -- Assumes nothing.
 use mathlib.Core.Path.{◌≡◌, sym, ap, ◌∙◌}
 use mathlib.Core.List.{List, [], ◌∷◌}
 use Prim.Native.Nat.{ℕ, ◌+◌, ◌*◌, ◌/◌, ◌%◌, ◌^◌, ◌<◌}
+use native.Mathlib.Nat.{mod-eq_of_lt}
 use native.Mathlib.Omega.{arith}
 use lib.ListN.{get_or, take, drop}
-use lib.Bits.{bit_and, and_mask}
+use lib.Bits.{bit_and, bit_or, and_mask, or_shifted}
 use Rattle.std.specs.Int.{w16, w32, w64, from_be_bytes}
 use Rattle.std.proofs.lemmas.List.{get_or-take, get_or-drop}
 use Rattle.records.specs.Records.{joined, split, fields_of}
+
+-- one more byte behind a number of 24 bits
+pub one_more : (x b : ℕ) → x < 2 ^ 24 → b < 256 → bit_or (x * 2 ^ 8 % 2 ^ 32) b ≡ x * 256 + b
+one_more x b hx hb =
+    let f : x * 2 ^ 8 < 2 ^ 32 = omega arith in
+    rw (mod-eq_of_lt f) (or_shifted x 8 b hb)
+
+-- a number of 32 bits behind another
+pub both : (x y : ℕ) → x < 2 ^ 32 → y < 2 ^ 32 → bit_or (x * 2 ^ 32 % 2 ^ 64) y ≡ x * 2 ^ 32 + y
+both x y hx hy =
+    let f : x * 2 ^ 32 < 2 ^ 64 = omega arith in
+    rw (mod-eq_of_lt f) (or_shifted x 32 y hy)
+
+-- the lower half of a byte, and a byte behind it
+pub half_more : (a b : ℕ) → b < 256 → bit_or (bit_and a 15 * 2 ^ 8 % 2 ^ 16) b ≡ a % 16 * 256 + b
+half_more a b hb =
+    let m : bit_and a 15 ≡ a % 16 = and_mask a 4 in
+    let f : a % 16 * 2 ^ 8 < 2 ^ 16 = omega arith in
+    rw (m, mod-eq_of_lt f) (or_shifted (a % 16) 8 b hb)
 
 -- head the first two bytes, use the next four, value the last eight
 apart : (a b u v : ℕ) → a < 256 → b < 256 → u < 2 ^ 32 → v < 2 ^ 64
@@ -29,6 +49,10 @@ apart a b u v ha hb hu hv = λ i. record { operation = o i; place = record { 0 =
 
     r : n % 2 ^ 64 ≡ v
     r = omega arith
+
+-- four bytes from the i-th on, as one number
+abbrev pub four : List ℕ → ℕ → ℕ
+four l i = ((get_or l i 0 * 256 + get_or l (i + 1) 0) * 256 + get_or l (i + 2) 0) * 256 + get_or l (i + 3) 0
 
 -- the i-th of n bytes from the k-th on
 among : (l t : List ℕ) (k n : ℕ) → t ≡ take n (drop k l) → (i : ℕ) → i < n → get_or t i 0 ≡ get_or l (k + i) 0
