@@ -4,4 +4,5 @@ pub mod Tables
 pub mod Again
 pub mod Standing
 mod Rows
+pub mod Found
 pub mod NoSecond

@@ -3,7 +3,7 @@
 use mathlib.Core.Path.{◌≡◌, sym, ◌∙◌}
 use mathlib.Core.List.{List}
 use Prim.Native.Nat.{ℕ}
-use Rattle.std.specs.Prelude.{Option, ⊤}
+use Rattle.std.specs.Prelude.{Result, ⊤}
 use Rattle.theory.specs.Promise.{NoSecond}
 use Rattle.heap.specs.declared.Entry.{Entry}
 use Rattle.heap.specs.declared.SlabSlot.{SlabSlot}
@@ -25,16 +25,16 @@ put_slot_no_second q = puts_no_second (2, q.1, q.2, slot_bytes q.0)
 pub put_timer_no_second : NoSecond (λ (q : Timer × List ℕ × ℕ) (r : List ℕ × ℕ). PutsTimer q.0 q.1 q.2 r.0 r.1)
 put_timer_no_second q = puts_no_second (19, q.1, q.2, timer_bytes q.0)
 
-pub header_at_no_second : NoSecond (λ (q : List ℕ × ℕ) (r : Option Header). FindsHeader q.0 q.1 r)
+pub header_at_no_second : NoSecond (λ (q : List ℕ × ℕ) (r : Result Header Header). FindsHeader q.0 q.1 r)
 header_at_no_second q r s p t = p ∙ sym t
 
-pub entry_at_no_second : NoSecond (λ (q : List ℕ × ℕ) (r : Option Entry). FindsEntry q.0 q.1 r)
+pub entry_at_no_second : NoSecond (λ (q : List ℕ × ℕ) (r : Result Entry Entry). FindsEntry q.0 q.1 r)
 entry_at_no_second q r s p t = p ∙ sym t
 
-pub slot_at_no_second : NoSecond (λ (q : List ℕ × ℕ) (r : Option SlabSlot). FindsSlot q.0 q.1 r)
+pub slot_at_no_second : NoSecond (λ (q : List ℕ × ℕ) (r : Result SlabSlot SlabSlot). FindsSlot q.0 q.1 r)
 slot_at_no_second q r s p t = p ∙ sym t
 
-pub timer_at_no_second : NoSecond (λ (q : List ℕ × ℕ) (r : Option Timer). FindsTimer q.0 q.1 r)
+pub timer_at_no_second : NoSecond (λ (q : List ℕ × ℕ) (r : Result Timer Timer). FindsTimer q.0 q.1 r)
 timer_at_no_second q r s p t = p ∙ sym t
 
 -- a record of room that is not in use is the one that its kind names

@@ -1,7 +1,6 @@
 -- What each function promises of its answer r, and of the lent bytes as they are afterwards.
 -- Assumes nothing.
-use Rattle.std.specs.Prelude.{◌≡◌, ◌&&◌, List, ℕ, Option}
-use Rattle.std.specs.Bool.{then_some}
+use Rattle.std.specs.Prelude.{◌≡◌, ◌&&◌, cond, List, ℕ, Result, Ok, Err}
 use Rattle.digits.specs.Promises.{Puts}
 use Rattle.heap.specs.declared.Entry.{Entry}
 use Rattle.heap.specs.declared.SlabSlot.{SlabSlot}
@@ -23,15 +22,16 @@ PutsSlot s out at out' r = Puts 2 out at (slot_bytes s) out' r
 abbrev pub PutsTimer : Timer → List ℕ → ℕ → List ℕ → ℕ → Type 0
 PutsTimer t out at out' r = Puts 19 out at (timer_bytes t) out' r
 
--- the bytes from an offset on are looked at: what they are read as, where no spare bit is set and each field is in its range
-abbrev pub FindsHeader : List ℕ → ℕ → Option Header → Type 0
-FindsHeader l i r = r ≡ then_some (header_clear l i && header_in l i) (header_of l i)
+-- the bytes from an offset on are looked at: whether no spare bit is set and each field is in its range, and what is read of them
+-- either way
+abbrev pub FindsHeader : List ℕ → ℕ → Result Header Header → Type 0
+FindsHeader l i r = r ≡ cond (header_clear l i && header_in l i) (Ok (header_of l i)) (Err (header_of l i))
 
-abbrev pub FindsEntry : List ℕ → ℕ → Option Entry → Type 0
-FindsEntry l i r = r ≡ then_some (entry_clear l i && entry_in l i) (entry_of l i)
+abbrev pub FindsEntry : List ℕ → ℕ → Result Entry Entry → Type 0
+FindsEntry l i r = r ≡ cond (entry_clear l i && entry_in l i) (Ok (entry_of l i)) (Err (entry_of l i))
 
-abbrev pub FindsSlot : List ℕ → ℕ → Option SlabSlot → Type 0
-FindsSlot l i r = r ≡ then_some (slot_clear l i && slot_in l i) (slot_of l i)
+abbrev pub FindsSlot : List ℕ → ℕ → Result SlabSlot SlabSlot → Type 0
+FindsSlot l i r = r ≡ cond (slot_clear l i && slot_in l i) (Ok (slot_of l i)) (Err (slot_of l i))
 
-abbrev pub FindsTimer : List ℕ → ℕ → Option Timer → Type 0
-FindsTimer l i r = r ≡ then_some (timer_clear l i && timer_in l i) (timer_of l i)
+abbrev pub FindsTimer : List ℕ → ℕ → Result Timer Timer → Type 0
+FindsTimer l i r = r ≡ cond (timer_clear l i && timer_in l i) (Ok (timer_of l i)) (Err (timer_of l i))

@@ -1,15 +1,15 @@
 // The cells of an image: its header, an entry, a slot and a timer as bytes. Each is put at an offset of lent bytes, and is read of the
-// bytes from an offset on where they pass by the tables of docs/IMAGE.md, which `columns` tests. The three kinds of which there are
-// whole arrays are a `Cell` each.
+// bytes from an offset on; `columns` tests by the tables of docs/IMAGE.md whether these pass. The three kinds of which there are whole
+// arrays are a `Cell` each.
 //
-// Bytes pass exactly where they are those of a record whose numbers fit; what is read of bytes that pass has these bytes.
+// Bytes pass exactly where they are those of a record whose numbers fit; what is read of bytes that pass has these bytes. What is
+// read of others is a record all the same, which an `Err` hands out, and means nothing.
 #![tactic(auto)]
 
 mod columns;
 mod parts;
 
-ghost use Rattle.std.specs.Prelude.{◌+◌, ◌≤◌, ◌≡◌, ◌&&◌, Bool, List, ℕ, length};
-ghost use Rattle.std.specs.Bool.{then_some};
+ghost use Rattle.std.specs.Prelude.{◌+◌, ◌≤◌, ◌≡◌, ◌&&◌, Bool, cond, List, ℕ, length, Ok, Err};
 ghost use Rattle.digits.specs.Promises.{Puts};
 ghost use Rattle.heap.specs.Rules.{no_entry};
 ghost use Rattle.state.specs.State.{no_timer};
@@ -49,11 +49,11 @@ pub trait Cell: Copy {
         requires { at + SIZE ≤ length out.old }
         ensures { Puts SIZE out.old at (bytes_of self) out.new result };
 
-    // The record that the bytes are read as, where they pass.
-    fn read(bytes: &[u8], at: usize) -> Option<Self>
+    // The record that the bytes are read as: an `Err` where they do not pass.
+    fn read(bytes: &[u8], at: usize) -> Result<Self, Self>
         requires { at + SIZE ≤ length bytes.now }
         ensures { result
-            ≡ then_some (clear bytes.now at && within bytes.now at) (read_as bytes.now at) };
+            ≡ cond (clear bytes.now at && within bytes.now at) (Ok (read_as bytes.now at)) (Err (read_as bytes.now at)) };
 }
 
 // What an image has of a set beside its entries, slots and timers.
@@ -85,8 +85,8 @@ impl Header {
         digits::put(out, at, 2, u64::from(self.free.0))
     }
 
-    // The header that the bytes are read as, where they pass.
-    pub fn read(bytes: &[u8], at: usize) -> Option<Header>
+    // The header that the bytes are read as: an `Err` where they do not pass.
+    pub fn read(bytes: &[u8], at: usize) -> Result<Header, Header>
         requires { at + 9 ≤ length bytes.now }
         ensures { FindsHeader bytes.now at result }
     {
@@ -98,13 +98,18 @@ impl Header {
         let free = digits::number(bytes, at + 7, 2);
         let spare = columns::header_spare(marks, place, len, made, free);
         let ranges = columns::header_range(format, place, len, made, free);
-        (spare && ranges).then_some(Header {
+        let header = Header {
             closed: marks / 2 % 2 == 1,
             first: parts::number_from(marks % 2, place as u16).map(Place),
             len: len as usize,
             made: made as usize,
             free: Slot(free as u16),
-        })
+        };
+        if spare && ranges {
+            Ok(header)
+        } else {
+            Err(header)
+        }
     }
 }
 
@@ -143,7 +148,7 @@ impl Cell for Entry {
         digits::put(out, at, 1, u64::from(self.slot.0))
     }
 
-    fn read(bytes: &[u8], at: usize) -> Option<Entry>
+    fn read(bytes: &[u8], at: usize) -> Result<Entry, Entry>
         requires { at + 14 ≤ length bytes.now }
         ensures { FindsEntry bytes.now at result }
     {
@@ -153,12 +158,17 @@ impl Cell for Entry {
         let slot = digits::number(bytes, at + 13, 1);
         let spare = columns::entry_spare(generation);
         let ranges = columns::entry_range(place, slot);
-        (spare && ranges).then_some(Entry {
+        let entry = Entry {
             at: deadline,
             generation: generation as u32,
             place: Place(place as u16),
             slot: Slot(slot as u16),
-        })
+        };
+        if spare && ranges {
+            Ok(entry)
+        } else {
+            Err(entry)
+        }
     }
 }
 
@@ -191,16 +201,17 @@ impl Cell for SlabSlot {
         digits::put(out, at, 2, parts::slot_number(self.state))
     }
 
-    fn read(bytes: &[u8], at: usize) -> Option<SlabSlot>
+    fn read(bytes: &[u8], at: usize) -> Result<SlabSlot, SlabSlot>
         requires { at + 2 ≤ length bytes.now }
         ensures { FindsSlot bytes.now at result }
     {
         let n = digits::number(bytes, at, 2);
         let spare = columns::slot_spare(n);
         let ranges = columns::slot_range(n);
-        (spare && ranges).then_some(SlabSlot {
+        let slot = SlabSlot {
             state: parts::state_from(n / 32768, (n % 512) as u16),
-        })
+        };
+        if spare && ranges { Ok(slot) } else { Err(slot) }
     }
 }
 
@@ -245,7 +256,7 @@ impl Cell for Timer {
         digits::put(out, at, 8, life.due)
     }
 
-    fn read(bytes: &[u8], at: usize) -> Option<Timer>
+    fn read(bytes: &[u8], at: usize) -> Result<Timer, Timer>
         requires { at + 19 ≤ length bytes.now }
         ensures { FindsTimer bytes.now at result }
     {
@@ -257,11 +268,16 @@ impl Cell for Timer {
         let due = digits::number(bytes, at + 11, 8);
         let spare = columns::timer_spare(tags, next, slot, word, due);
         let ranges = columns::timer_range(tags, next, slot);
-        (spare && ranges).then_some(Timer {
+        let timer = Timer {
             life: parts::life_from(tags / 64, word as u32, due),
             waiting: parts::waiting_from(tags / 4 % 4, next as u16),
             held: parts::number_from(tags / 2 % 2, slot as u16).map(Slot),
             uses: uses as u32,
-        })
+        };
+        if spare && ranges {
+            Ok(timer)
+        } else {
+            Err(timer)
+        }
     }
 }

@@ -10,6 +10,7 @@ use lib.ListN.{length, get_or}
 use lib.Dec.{eqb}
 use mir.Syntax.{w8}
 use mir.Val.{Fits}
+use Rattle.std.specs.Prelude.{Result, Ok, Err, ⊤}
 use Rattle.refusals.specs.declared.Refusal.{Refusal}
 use Rattle.refusals.specs.declared.Refusal.TheVariants.{BadImage}
 use Rattle.refusals.specs.declared.outcome.Outcome as Code
@@ -30,25 +31,30 @@ use Rattle.timers.specs.Calls.{step, said, told}
 use Rattle.laws.proofs.Soundness.StepSound.{step_sound}
 use Rattle.laws.proofs.Widths.Calls.{widths_words}
 use Rattle.image.specs.Image.{size, image_of}
-use Rattle.image.specs.Calls.{barred, read_of, written_by, write_of}
+use Rattle.image.specs.Accepted.{Pictures}
+use Rattle.image.specs.Calls.{told_reading, read_of, written_by, write_of}
+use Rattle.image.specs.Calls as Image
 use Rattle.image.proofs.Lengths.{image_long}
 use Rattle.image.proofs.Calling.{write_by}
 use Rattle.image.proofs.Accepted.{taken_image, taken_widths, taken_sound}
-use Rattle.host.specs.Calls.{on_reading, on_image, pictured, fresh_on}
-use Rattle.host.specs.Promises.{end_of, given}
+use Rattle.host.specs.Numbers.{status_of}
+use Rattle.host.specs.Calls.{on_reading, on_image, image_after, pictured, fresh_on}
+use Rattle.host.specs.Promises.{end_of, given, Leaves}
 
-module _ {S : Type 0} (b : List ℕ) (k : S) (f : Set → Outcome S Value) where
-  -- what `read` refuses is refused
-  pub read_refused : (w : Refusal) → barred w ≡ read_of b → kept k (refuse w) ≡ on_image b k f
+module _ {S : Type 0} (b : List ℕ) (k : S) (f : Set → Outcome S Value) (r : Code.Outcome Set ⊤) (e : told_reading r ≡ read_of b) where
+  by_reading : (y : Result ⊤ Refusal) → r.answer ≡ y → on_image b k f ≡ on_reading k f r.state (Image.said y)
   unfolding on_image
-  read_refused w e =
-      sym (any_refusal (on_reading k f fresh_of) (kept k) (λ n. refl) (λ x. refl) w)
-      ∙ ap (λ (o : Outcome Set Nothing). on_reading k f o.state o.answer) e
+  by_reading y g =
+      ap (λ (o : Outcome Set Nothing). on_reading k f o.state o.answer) (sym e)
+      ∙ ap (λ (x : Result ⊤ Refusal). on_reading k f r.state (Image.said x)) g
+
+  -- what `read` refuses is refused
+  pub read_refused : (w : Refusal) → r.answer ≡ Err w → on_image b k f ≡ kept k (refuse w)
+  read_refused w g = by_reading (Err w) g ∙ any_refusal (on_reading k f r.state) (kept k) (λ n. refl) (λ x. refl) w
 
   -- else the call is that on the set
-  pub read_done : (s : Set) → done s ≡ read_of b → f s ≡ on_image b k f
-  unfolding on_image
-  read_done s e = ap (λ (o : Outcome Set Nothing). on_reading k f o.state o.answer) e
+  pub read_done : {u : ⊤} → r.answer ≡ Ok u → on_image b k f ≡ f r.state
+  read_done {u} g = by_reading (Ok u) g
 
 -- a sound set over bytes of an image's length
 sound_written : (b : List ℕ) (s : Set) → length b ≡ size → Sound s → write_of s b ≡ done (image_of s)
@@ -62,26 +68,40 @@ fresh_written b =
     λ i. cond (eqb (length b) size) (written_by fresh_of b (clear_none (fault_of fresh_of) (sound_tells fresh_of fresh_sound) i)) (kept b (refuse BadImage))
 
 -- the end of a call whose set can be written
-ends : (b : List ℕ) (s : Set) (a : Answer Value) → write_of s b ≡ done (image_of s) → end_of b a s ≡ pictured b (record { state = s; answer = a })
-ends b s (accepted v) e = ap (λ (o : Outcome (List ℕ) Nothing). record { state = o.state; answer = given v o.answer }) e
-ends b s (refused n) e = refl
-ends b s (unsound x) e = refl
+ended_as : (b : List ℕ) (s : Set) (a : Answer Value) → write_of s b ≡ done (image_of s) → end_of b a s ≡ pictured b (record { state = s; answer = a })
+ended_as b s (accepted v) e = ap (λ (o : Outcome (List ℕ) Nothing). record { state = o.state; answer = given v o.answer }) e
+ended_as b s (refused n) e = refl
+ended_as b s (unsound x) e = refl
 
-module _ (b : List ℕ) (y : Bytes b) (s : Set) (e : done s ≡ read_of b) where
-  -- the set after any call can
-  pub after_written : (c : Call) (l : List ℕ) → write_of (step s c l).state.set b ≡ done (image_of (step s c l).state.set)
+pub ends : (b : List ℕ) (o : Outcome Set Value) {b' : List ℕ} {n : ℕ} → write_of o.state b ≡ done (image_of o.state)
+    → Leaves (end_of b o.answer o.state) b' n → (b' ≡ image_after b o.answer o.state) × (n ≡ status_of o.answer)
+ends b o e l =
+    let p = ended_as b o.state o.answer e in
+    (l.image ∙ ap (λ (x : Outcome (List ℕ) Value). x.state) p, l.status ∙ ap (λ (x : Outcome (List ℕ) Value). status_of x.answer) p)
+
+module _ (b : List ℕ) (r : Code.Outcome Set ⊤) (y : Bytes b) (e : told_reading r ≡ read_of b) {u : ⊤} (g : r.answer ≡ Ok u) where
+  -- the bytes are the image of the set that was read of them, which is sound
+  pub taken : Pictures r.state b
+  taken =
+      let d : read_of b ≡ done r.state = sym e ∙ ap (λ (x : Result ⊤ Refusal). record { state = r.state; answer = Image.said x }) g in
+      record { sound = taken_sound b y r.state d; widths = taken_widths b y r.state d; image = taken_image b y r.state d }
+
+  -- the set after any call can be written
+  pub after_written : (c : Call) (l : List ℕ) → write_of (step r.state c l).state.set b ≡ done (image_of (step r.state c l).state.set)
   after_written c l =
-      let v = taken_sound b y s (sym e) in
-      sound_written b (step s c l).state.set (ap length (sym (taken_image b y s (sym e))) ∙ image_long s)
-      (step_sound s v (widths_words s v (taken_widths b y s (sym e))) c l)
+      sound_written b (step r.state c l).state.set (ap length (sym taken.image) ∙ image_long r.state)
+      (step_sound r.state taken.sound (widths_words r.state taken.sound taken.widths) c l)
 
-  -- a call that was made on the set and ended
-  pub settled : (c : Call) (l : List ℕ) (a : Code.Outcome Set Reply) {x : Outcome (List ℕ) Value}
-      → told a ≡ record { state = (step s c l).state.set; answer = (step s c l).answer } → x ≡ end_of b (said a.answer) a.state
-      → x ≡ pictured b (record { state = (step s c l).state.set; answer = (step s c l).answer })
-  settled c l a t p =
-      p ∙ ap (λ (o : Outcome Set Value). end_of b o.answer o.state) t
-      ∙ ends b (step s c l).state.set (step s c l).answer (after_written c l)
+  -- a call that was made on the set and ended: what it leaves, and that it answers as the call did
+  module _ (c : Call) (l : List ℕ) (a : Code.Outcome Set Reply) {x : Outcome (List ℕ) Value}
+      (t : told a ≡ record { state = (step r.state c l).state.set; answer = (step r.state c l).answer }) (p : x ≡ end_of b (said a.answer) a.state) where
+    pub call_ended : x ≡ pictured b (record { state = (step r.state c l).state.set; answer = (step r.state c l).answer })
+    call_ended =
+        p ∙ ap (λ (o : Outcome Set Value). end_of b o.answer o.state) t
+        ∙ ended_as b (step r.state c l).state.set (step r.state c l).answer (after_written c l)
+
+    pub call_said : x.answer ≡ said a.answer
+    call_said = ap (λ (o : Outcome (List ℕ) Value). o.answer) call_ended ∙ sym (ap (λ (o : Outcome Set Value). o.answer) t)
 
 -- what a slice of bytes is known by
 pub bytes : {b : List ℕ} → ((j : ℕ) → Fits w8 (get_or b j 0)) → Bytes b

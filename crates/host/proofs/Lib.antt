@@ -1,4 +1,5 @@
 pub mod Calling
+pub mod Settled
 pub mod Turning
 pub mod NoSecond
 pub mod Refused

@@ -10,12 +10,12 @@ use Rattle.digits.specs.Digits.{digits}
 use Rattle.digits.specs.Rows.{blocks}
 use Rattle.state.specs.declared.Set.{Set}
 use Rattle.timers.specs.declared.Reply.{Reply}
-use Rattle.timers.specs.Values.{Value}
+use Rattle.timers.specs.Values.{Value, handle_in}
 use Rattle.timers.specs.Calls.{said}
 use Rattle.image.specs.Calls.{write_of}
 use Rattle.host.specs.Numbers.{status_of}
-use Rattle.host.specs.Calls.{add_on, reset_on, cancel_on, lent_on, next_wake_on}
-use Rattle.host.specs.Seen.{fresh_image, fresh_status, added_image, added_handle, added_status, reset_image, reset_status, cancelled_image, cancelled_status, turned_image, turned_reports, turned_count, turned_status, woken_any, woken_at, woken_status}
+use Rattle.host.specs.Calls.{add_on, reset_on, cancel_on, turn_on, next_wake_on}
+use Rattle.host.specs.Seen.{word_or, count_or, fresh_image, fresh_status, added_image, added_handle, added_status, reset_image, reset_status, cancelled_image, cancelled_status, turned_image, turned_reports, turned_count, turned_status, woken_any, woken_at, woken_status}
 
 pub record Freshens (b b' : List ℕ) (r : ℕ) : Type 0 where
   pub image : b' ≡ fresh_image b
@@ -60,9 +60,16 @@ Reset b w d b' r = left b' r ≡ reset_on b w d
 abbrev pub Cancelled : List ℕ → ℕ → List ℕ → Result Reply Refusal → Type 0
 Cancelled b w b' r = left b' r ≡ cancel_on b w
 
--- a turn with a list, which is left as the turn leaves it
+-- a turn, which leaves an image and report bytes
 abbrev pub Turned : List ℕ → ℕ → List ℕ → List ℕ → List ℕ → Result Reply Refusal → Type 0
-Turned b N l b' l' r = left (b', l') r ≡ lent_on b N l
+Turned b N out b' out' r = left (record { image = b'; reports = out' }) r ≡ turn_on b N out
+
+-- the numbers that are lent to an add and to a turn
+abbrev pub Hands : ℕ → ℕ → Result Reply Refusal → Type 0
+Hands n n' r = n' ≡ word_or n (handle_in (said r))
+
+abbrev pub Counts : ℕ → ℕ → Result Reply Refusal → Type 0
+Counts n n' r = n' ≡ count_or n (said r)
 
 abbrev pub Woken : List ℕ → Result Reply Refusal → Type 0
 Woken b r = said r ≡ next_wake_on b
@@ -81,6 +88,11 @@ end_of b (unsound x) s = kept b (unsound x)
 
 abbrev pub Ends : Code.Outcome Set Reply → List ℕ → List ℕ → Result Reply Refusal → Type 0
 Ends a b b' r = left b' r ≡ end_of b (said a.answer) a.state
+
+-- what is left of an image, and the status
+pub record Leaves {A : Type 0} (o : Outcome (List ℕ) A) (b' : List ℕ) (r : ℕ) : Type 0 where
+  pub image : b' ≡ o.state
+  pub status : r ≡ status_of o.answer
 
 -- the status of an answer
 abbrev pub status_in : {A : Type 0} → Result A Refusal → ℕ

@@ -7,7 +7,7 @@
 
 ghost use Rattle.std.specs.Prelude.{◌≡◌, ◌*◌, ◌≤◌, length};
 ghost use Rattle.host.specs.Numbers.{handle_from};
-ghost use Rattle.host.specs.Promises.{Freshens, Adds, Resets, Cancels, Turns, Wakes, Added, Reset, Cancelled, Turned, Woken, Ends, Tells, Puts};
+ghost use Rattle.host.specs.Promises.{Freshens, Adds, Resets, Cancels, Turns, Wakes, Added, Hands, Reset, Cancelled, Turned, Counts, Woken, Ends, Tells, Puts};
 
 use refusals::Refusal;
 use refusals::outcome::Outcome;
@@ -27,11 +27,7 @@ pub extern "C" fn nurberosh_fresh(image: &mut [u8]) -> u64
 pub extern "C" fn nurberosh_add(image: &mut [u8], deadline: u64, handle: &mut u64) -> u64
     ensures { Adds image.old deadline handle.old image.new handle.new result }
 {
-    let answer = add(image, deadline);
-    if let Ok(Reply::Added(new)) = answer {
-        *handle = state::handle_word(new);
-    }
-    status(answer)
+    status(add(image, deadline, handle))
 }
 
 // Sets a live timer to another deadline.
@@ -60,16 +56,7 @@ pub extern "C" fn nurberosh_turn(
 ) -> u64
     ensures { Turns image.old reading reports.old reported.old image.new reports.new reported.new result }
 {
-    let room = (reports.len() / 8).min(heap::CAP);
-    let mut words = [0u64; heap::CAP];
-    let list = &mut words[..room];
-    let answer = turn(image, reading, list);
-    let Ok(Reply::Ran { reported: n, .. }) = answer else {
-        return status(answer);
-    };
-    put_words(reports, &list[..n]);
-    *reported = n as u64;
-    status(answer)
+    status(turn(image, reading, reports, reported))
 }
 
 // When the next turn is wanted: 1 and the time, or 0 where no timer has an entry in the heap.
@@ -80,49 +67,80 @@ pub extern "C" fn nurberosh_next_wake(image: &[u8], any: &mut u64, wake: &mut u6
     let answer = next_wake(image);
     if let Ok(Reply::Wake(next)) = answer {
         *any = u64::from(next.is_some());
-        *wake = next.unwrap_or(*wake);
+        if let Some(time) = next {
+            *wake = time;
+        }
     }
     status(answer)
 }
 
-// An add to the set of an image.
-fn add(image: &mut [u8], deadline: u64) -> Result<Reply, Refusal>
-    ensures { Added image.old deadline image.new result }
+// An add to the set of an image. The word of the new handle is put before the image is written.
+fn add(image: &mut [u8], deadline: u64, handle: &mut u64) -> Result<Reply, Refusal>
+    ensures image { Added image.old deadline image.new result }
+    ensures handle { Hands handle.old handle.new result }
 {
-    let s = image::read(image)?;
-    ended(timers::add(s, deadline), image)
+    let found = image::read(image);
+    found.answer?;
+    let a = timers::add(found.state, deadline);
+    let Ok(Reply::Added(new)) = a.answer else {
+        return ended(a, image);
+    };
+    *handle = state::handle_word(new);
+    ended(a, image)
 }
 
 // A reset in the set of an image, by the handle in a word.
 fn reset(image: &mut [u8], handle: u64, deadline: u64) -> Result<Reply, Refusal>
     ensures { Reset image.old handle deadline image.new result }
 {
-    let s = image::read(image)?;
-    ended(timers::reset(s, handle_from(handle), deadline), image)
+    let found = image::read(image);
+    found.answer?;
+    ended(
+        timers::reset(found.state, handle_from(handle), deadline),
+        image,
+    )
 }
 
 // A cancel in the set of an image, by the handle in a word.
 fn cancel(image: &mut [u8], handle: u64) -> Result<Reply, Refusal>
     ensures { Cancelled image.old handle image.new result }
 {
-    let s = image::read(image)?;
-    ended(timers::cancel(s, handle_from(handle)), image)
+    let found = image::read(image);
+    found.answer?;
+    ended(timers::cancel(found.state, handle_from(handle)), image)
 }
 
-// A turn of the set of an image, with a list for its reports.
-fn turn(image: &mut [u8], reading: u64, list: &mut [u64]) -> Result<Reply, Refusal>
-    ensures { Turned image.old reading list.old image.new list.new result }
+// A turn of the set of an image. What it reports is put before the image is written.
+fn turn(
+    image: &mut [u8],
+    reading: u64,
+    reports: &mut [u8],
+    reported: &mut u64,
+) -> Result<Reply, Refusal>
+    ensures board { Turned image.old reading reports.old image.new reports.new result }
+    ensures reported { Counts reported.old reported.new result }
 {
-    let s = image::read(image)?;
-    ended(timers::turn(s, reading, list), image)
+    let found = image::read(image);
+    found.answer?;
+    let room = (reports.len() / 8).min(heap::CAP);
+    let mut words = [0u64; heap::CAP];
+    let list = &mut words[..room];
+    let a = timers::turn(found.state, reading, list);
+    let Ok(Reply::Ran { reported: n, .. }) = a.answer else {
+        return ended(a, image);
+    };
+    put_words(reports, &list[..n]);
+    *reported = n as u64;
+    ended(a, image)
 }
 
 // The next wake of the set of an image.
 fn next_wake(image: &[u8]) -> Result<Reply, Refusal>
     ensures { Woken image.now result }
 {
-    let s = image::read(image)?;
-    timers::next_wake(s).answer
+    let found = image::read(image);
+    found.answer?;
+    timers::next_wake(found.state).answer
 }
 
 // Ends a call: where it is accepted its set is written over the image.

@@ -7,16 +7,15 @@ use mathlib.Core.List.{List}
 use Prim.Native.Nat.{ℕ}
 use lib.Dec.{eqb}
 use lib.ListN.{length}
-use Rattle.std.specs.Prelude.{Result, Ok, Err, ⊤}
+use Rattle.std.specs.Prelude.{Result, ⊤}
 use Rattle.theory.specs.Promise.{NoSecond, TellsApart}
 use Rattle.theory.proofs.Promise.{by_rule, undone_apart}
 use Rattle.theory.proofs.Tests.{true_false}
 use Rattle.refusals.specs.declared.fault.Fault.{Fault}
 use Rattle.refusals.specs.declared.Refusal.{Refusal}
-use Rattle.refusals.specs.declared.Refusal.TheVariants.{Unsound, BadImage}
-use Rattle.refusals.specs.Answer.{Answer, accepted, refused, unsound, refuse, Outcome, Nothing, kept, is_accepted}
-use Rattle.refusals.proofs.Apart.{refusal_of, refusal_back, result_of, result_back}
-use Rattle.state.specs.State.{fresh_of}
+use Rattle.refusals.specs.declared.Refusal.TheVariants.{BadImage}
+use Rattle.refusals.specs.Answer.{refuse, Outcome, Nothing, kept, is_accepted}
+use Rattle.refusals.proofs.Apart.{result_of, result_back, told_by_apart}
 use Rattle.state.specs.Faults.{fault_of}
 use Rattle.state.specs.declared.Set.{Set}
 use Rattle.image.specs.Image.{size}
@@ -24,21 +23,8 @@ use Rattle.image.specs.Calls.{told_reading, told_writing, read_of, written_by, w
 use Rattle.image.specs.Promises.{Reads, Writes}
 
 -- what is read, or is written, is told by what is said of it
-reading_of : Outcome Set Nothing → Result Set Refusal
-reading_of o = of o.answer
-  where
-    of : Answer Nothing → Result Set Refusal
-    of (accepted v) = Ok o.state
-    of (refused n) = Err (refusal_of n)
-    of (unsound x) = Err (Unsound x)
-
-reading_back : (r : Result Set Refusal) → reading_of (told_reading r) ≡ r
-unfolding reading_of
-reading_back (Ok s) = refl
-reading_back (Err r) = refusal_back (λ a. reading_of (record { state = fresh_of; answer = a })) (λ x. Err x) (λ n. refl) (λ x. refl) r
-
 reading_apart : TellsApart told_reading
-reading_apart = undone_apart told_reading reading_of reading_back
+reading_apart = told_by_apart (λ (v : Nothing). v) (λ v. v) (λ v. refl)
 
 writing_apart : TellsApart (λ (q : List ℕ × Result ⊤ Refusal). told_writing q.0 q.1)
 writing_apart =

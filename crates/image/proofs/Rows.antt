@@ -9,8 +9,9 @@ use native.Mathlib.Omega.{arith}
 use lib.Dec.{ltb}
 use lib.ListN.{get_or}
 use borrow.Author.Tests.{lt-ltb}
-use Rattle.std.specs.Prelude.{Option, Some, None}
+use Rattle.std.specs.Prelude.{Option, Some, None, Result, Ok, Err}
 use Rattle.std.specs.Bool.{then_some}
+use Rattle.std.specs.Result.{result_ok}
 use Rattle.std.proofs.Math.Nat.{mul-le-mul_right}
 use Rattle.heap.specs.Capacity.{cap}
 use Rattle.heap.specs.Rules.{no_entry}
@@ -42,6 +43,11 @@ not_passed false y e = refl
 pub passed : {A : Type 0} (b : Bool) (x y : A) → Some x ≡ then_some b y → (b ≡ true) × (x ≡ y)
 passed true x y e = (refl, cc)
 passed false x y e = cc
+
+-- what is found of bytes, where they pass
+pub found_ok : {A : Type 0} (b : Bool) (x : A) {o : Option A} {r : Result A A} → o ≡ result_ok r → r ≡ cond b (Ok x) (Err x) → o ≡ then_some b x
+found_ok true x p q = p ∙ ap result_ok q
+found_ok false x p q = p ∙ ap result_ok q
 
 -- two tests of two things, in either order
 two_tests : (a b c d : Bool) → ((a && b) && (c && d)) ≡ ((a && c) && (b && d))
@@ -84,7 +90,7 @@ module _ (l : List ℕ) where
       (λ j q. each (timer_of l (timers_at + j * 19)) no_timer j q)
 
   -- the parts of an image, by what is read of its header
-  abbrev head_pass : Bool
+  abbrev pub head_pass : Bool
   head_pass = header_clear l 0 && header_in l 0
 
   abbrev entries_pass : Header → Bool

@@ -1,11 +1,12 @@
 -- Reading and writing an image: what is refused, in which order, and what is had otherwise.
 -- Assumes nothing.
-use Rattle.std.specs.Prelude.{cond, List, ℕ, eqb, length, Result, Ok, Err, ⊤}
+use Rattle.std.specs.Prelude.{cond, List, ℕ, eqb, length, Result, ⊤}
 use Rattle.std.proofs.Math.Option.{Option, none, some}
 use Rattle.refusals.specs.declared.fault.Fault.{Fault}
 use Rattle.refusals.specs.declared.Refusal.{Refusal}
 use Rattle.refusals.specs.declared.Refusal.TheVariants.{Unsound, BadImage}
-use Rattle.refusals.specs.Outcomes.{said_by}
+use Rattle.refusals.specs.declared.outcome.Outcome as Code
+use Rattle.refusals.specs.Outcomes.{said_by, told_by}
 use Rattle.refusals.specs.Answer.{Answer, refuse, Outcome, Nothing, done, kept}
 use Rattle.state.specs.State.{fresh_of}
 use Rattle.state.specs.Faults.{fault_of}
@@ -33,13 +34,12 @@ written_by s out (some f) = kept out (refuse (Unsound f))
 unfoldable pub write_of : Set → List ℕ → Outcome (List ℕ) Nothing
 write_of s out = cond (eqb (length out) size) (written_by s out (fault_of s)) (kept out (refuse BadImage))
 
--- what the code's answers say; a reading that is refused has the fresh set beside it
+-- what the code's answers say
 abbrev pub said : Result ⊤ Refusal → Answer Nothing
 said = said_by (λ v. v)
 
-abbrev pub told_reading : Result Set Refusal → Outcome Set Nothing
-told_reading (Ok s) = done s
-told_reading (Err r) = barred r
+abbrev pub told_reading : Code.Outcome Set ⊤ → Outcome Set Nothing
+told_reading = told_by (λ v. v)
 
 abbrev pub told_writing : List ℕ → Result ⊤ Refusal → Outcome (List ℕ) Nothing
 told_writing out' r = record { state = out'; answer = said r }

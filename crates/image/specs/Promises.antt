@@ -5,6 +5,7 @@ use Rattle.std.specs.Bool.{then_some}
 use Rattle.digits.specs.Promises.{Puts}
 use Rattle.digits.specs.Rows.{rows, blocks, used, all_to}
 use Rattle.refusals.specs.declared.Refusal.{Refusal}
+use Rattle.refusals.specs.declared.outcome.Outcome as Code
 use Rattle.state.specs.declared.Set.{Set}
 use Rattle.image.specs.Image.{image_of, clear_if, in_if, read_or, set_from, spare_clear, fields_in}
 use Rattle.image.specs.Calls.{told_reading, read_of, told_writing, write_of}
@@ -34,7 +35,7 @@ abbrev pub WritesSet : Set → List ℕ → Type 0
 WritesSet s out' = out' ≡ image_of s
 
 -- the two calls
-abbrev pub Reads : List ℕ → Result Set Refusal → Type 0
+abbrev pub Reads : List ℕ → Code.Outcome Set ⊤ → Type 0
 Reads l r = told_reading r ≡ read_of l
 
 abbrev pub Writes : Set → List ℕ → List ℕ → Result ⊤ Refusal → Type 0

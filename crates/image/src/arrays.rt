@@ -24,7 +24,7 @@ fn read_row<T: Cell>(bytes: &[u8], at: usize, used: bool) -> Option<T>
     ensures { FindsRow T.clear T.within T.read_as T.blank T.SIZE used bytes.now at result }
 {
     if used {
-        T::read(bytes, at)
+        T::read(bytes, at).ok()
     } else {
         digits::zeros(bytes, at, T::SIZE).then_some(T::unused())
     }

@@ -8,11 +8,13 @@ mod arrays;
 
 ghost use Rattle.std.specs.Prelude.{◌≡◌, length};
 ghost use Rattle.image.specs.Image.{size};
+ghost use Rattle.image.specs.Calls.{told_reading, barred};
 ghost use Rattle.image.specs.Promises.{FindsSet, WritesSet, Reads, Writes};
 
 use cells::{Cell, Header};
 use heap::{Entry, Heap, SlabSlot};
 use refusals::Refusal;
+use refusals::outcome::Outcome;
 use state::{Set, Timer};
 
 // Where the entries, the slots and the timers begin: `entries_at`, `slots_at` and `timers_at` of specs/Image.antt.
@@ -25,18 +27,21 @@ const TIMERS: usize = SLOTS + heap::CAP * SlabSlot::SIZE;
 // How many bytes an image has: `size` of specs/Image.antt.
 pub const SIZE: usize = TIMERS + heap::CAP * Timer::SIZE;
 
-// Reads an image: bytes that are none are refused with 13, and then the image of a set that is not sound with 1.
-pub fn read(bytes: &[u8]) -> Result<Set, Refusal>
+// Reads an image: bytes that are none are refused with 13, and then the image of a set that is not sound with 1. Beside a refusal
+// stands the fresh set.
+pub fn read(bytes: &[u8]) -> Outcome<Set, ()>
     ensures { Reads bytes.now result }
 {
     if bytes.len() != SIZE {
-        return Err(Refusal::BadImage);
+        return refused(Refusal::BadImage);
     }
     let Some(set) = set_at(bytes) else {
-        return Err(Refusal::BadImage);
+        return refused(Refusal::BadImage);
     };
-    state::fault::first_fault(set).map_err(Refusal::Unsound)?;
-    Ok(set)
+    if let Err(fault) = state::fault::first_fault(set) {
+        return refused(Refusal::Unsound(fault));
+    }
+    Outcome::given(set, ())
 }
 
 // Writes every byte of an image: bytes of another length are refused with 13, and then a set that is not sound with 1.
@@ -51,12 +56,19 @@ pub fn write(s: Set, out: &mut [u8]) -> Result<(), Refusal>
     Ok(())
 }
 
+// What is answered where nothing is read.
+fn refused(why: Refusal) -> Outcome<Set, ()>
+    ensures { told_reading result ≡ barred why }
+{
+    Outcome::kept(state::fresh(), why)
+}
+
 // The set that the bytes are read as, where all of it passes.
 fn set_at(bytes: &[u8]) -> Option<Set>
     requires { length bytes.now ≡ size }
     ensures { FindsSet bytes.now result }
 {
-    let head = Header::read(bytes, 0)?;
+    let head = Header::read(bytes, 0).ok()?;
     let mut set = Set {
         heap: Heap {
             entries: [Entry::unused(); heap::CAP],

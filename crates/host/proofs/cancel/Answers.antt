@@ -1,6 +1,6 @@
 -- The cancel in the set that was read, whose set is written back.
 -- Assumes nothing.
-use mathlib.Core.Path.{◌≡◌, ap, ◌∙◌}
+use mathlib.Core.Path.{◌≡◌, sym, ap, ◌∙◌}
 use mathlib.Core.List.{[]}
 use borrow.Author.Rules.{rules}
 use Rattle.std.specs.Prelude.{Err}
@@ -11,24 +11,25 @@ use Rattle.timers.specs.Calls.{cancel_of, step}
 use Rattle.host.specs.Numbers.{handle_from}
 use Rattle.host.specs.Calls.{pictured, cancel_on}
 use Rattle.host.specs.Promises.{left}
-use Rattle.host.proofs.Calling.{read_refused, read_done, settled, bytes}
+use Rattle.host.proofs.Calling.{read_refused, read_done, call_ended, bytes}
 use Rattle.host.proofs.cancel.Goals as goal
 
-pub returns-in_err-s : goal.returns-in_err-s
+pub returns-in_err-found : goal.returns-in_err-found
 unfolding cancel_on
-returns-in_err-s c =
+returns-in_err-found c =
     let a = c.args in
     let b = a.image.now in
-    let w = c.in_err-s.field-0.0 in
+    let w = c.in_err-found.field-0.0 in
     let q : c.from_residual.result ≡ Err w = search rules in
-    ap (left b) q ∙ read_refused b b (λ (s : Set). pictured b (cancel_of s (handle_from a.handle))) w c.in_err-s.ensures
+    ap (left b) q
+    ∙ sym (read_refused b b (λ (s : Set). pictured b (cancel_of s (handle_from a.handle))) c.read-found.result c.read-found.ensures w c.in_err-found.was)
 
 pub returns : goal.returns
 unfolding cancel_on step
 returns c =
     let a = c.args in
     let b = a.image.now in
-    let s = c.in_ok-s.s in
-    settled b (bytes (λ j. search rules)) s c.in_ok-s.ensures (C.Cancel (handle_from a.handle)) [] c.cancel.result
-    (c.cancel.ensures ∙ ap (λ (h : Handle). cancel_of s h) c.handle_from.ensures) c.ended.ensures
-    ∙ read_done b b (λ (s : Set). pictured b (cancel_of s (handle_from a.handle))) s c.in_ok-s.ensures
+    let r = c.read-found.result in
+    call_ended b r (bytes (λ j. search rules)) c.read-found.ensures c.in_ok-found.was (C.Cancel (handle_from a.handle)) [] c.cancel.result
+    (c.cancel.ensures ∙ ap (λ (h : Handle). cancel_of r.state h) c.handle_from.ensures) c.ended.ensures
+    ∙ sym (read_done b b (λ (s : Set). pictured b (cancel_of s (handle_from a.handle))) r c.read-found.ensures c.in_ok-found.was)

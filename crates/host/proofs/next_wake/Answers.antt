@@ -1,6 +1,6 @@
 -- The next wake of the set that was read; nothing is written back.
 -- Assumes nothing.
-use mathlib.Core.Path.{◌≡◌, ap, ◌∙◌}
+use mathlib.Core.Path.{◌≡◌, sym, ap, ◌∙◌}
 use mathlib.Core.List.{List}
 use Prim.Native.Nat.{ℕ}
 use borrow.Author.Rules.{rules}
@@ -13,19 +13,18 @@ use Rattle.host.specs.Calls.{next_wake_on}
 use Rattle.host.proofs.Calling.{read_refused, read_done}
 use Rattle.host.proofs.next_wake.Goals as goal
 
-pub returns-in_err-s : goal.returns-in_err-s
+pub returns-in_err-found : goal.returns-in_err-found
 unfolding next_wake_on
-returns-in_err-s c =
+returns-in_err-found c =
     let b = c.args.image.now in
-    let w = c.in_err-s.field-0.0 in
+    let w = c.in_err-found.field-0.0 in
     let q : c.from_residual.result ≡ Err w = search rules in
     ap said q
-    ∙ ap (λ (o : Outcome (List ℕ) Value). o.answer) (read_refused b b (λ (s : Set). kept b (next_wake_of s).answer) w c.in_err-s.ensures)
+    ∙ sym (ap (λ (o : Outcome (List ℕ) Value). o.answer) (read_refused b b (λ (s : Set). kept b (next_wake_of s).answer) c.read-found.result c.read-found.ensures w c.in_err-found.was))
 
 pub returns : goal.returns
 unfolding next_wake_on
 returns c =
     let b = c.args.image.now in
-    let s = c.in_ok-s.s in
     ap (λ (o : Outcome Set Value). o.answer) c.next_wake.ensures
-    ∙ ap (λ (o : Outcome (List ℕ) Value). o.answer) (read_done b b (λ (s : Set). kept b (next_wake_of s).answer) s c.in_ok-s.ensures)
+    ∙ sym (ap (λ (o : Outcome (List ℕ) Value). o.answer) (read_done b b (λ (s : Set). kept b (next_wake_of s).answer) c.read-found.result c.read-found.ensures c.in_ok-found.was))
