@@ -4,9 +4,13 @@
 use mathlib.Core.Path.{◌≡◌, refl, sym, ap, subst, ◌∙◌}
 use mathlib.Core.Option.{none}
 use mathlib.Core.List.{List}
-use Prim.Native.Nat.{ℕ}
+use Prim.Native.Nat.{ℕ, ◌+◌, ◌*◌, ◌%◌}
 use Rattle.std.specs.Prelude.{Some, None, Result, Ok, Err, ⊤}
+use Rattle.refusals.specs.declared.fault.Fault.{Fault}
 use Rattle.refusals.specs.declared.Refusal.{Refusal}
+use Rattle.refusals.specs.declared.Refusal.TheVariants.{Unsound, Closed, DeadHandle, Full, ShortList, TimeOverflow, CounterBehind, WrongMode, ZeroPeriod, NotFired, VacantSlot, BadRecord, BadImage}
+use Rattle.refusals.specs.Numbers.{number_of}
+use Rattle.refusals.specs.Faults.{kind_of, where_of}
 use Rattle.refusals.specs.declared.outcome.Outcome as Code
 use Rattle.refusals.specs.Answer.{Answer, accepted, refused, unsound, refuse, Outcome, Nothing, done, kept}
 use Rattle.refusals.proofs.Refusing.{any_refusal}
@@ -28,6 +32,27 @@ use Rattle.host.proofs.Calling.{read_refused, read_done, fresh_written, ends}
 -- a refusal has one status, of whatever call it is
 pub one_status : (w : Refusal) → status_of {A = Nothing} (refuse w) ≡ status_of {A = Value} (refuse w)
 one_status w = any_refusal (status_of {A = Nothing}) (status_of {A = Value}) (λ n. refl) (λ x. refl) w
+
+-- a refusal other than 1 has its number for a status
+pub plain_status : (w : Refusal) → ((f : Fault) → w ≡ Unsound f → ⊥) → number_of w ≡ status_of {A = Nothing} (refuse w)
+plain_status (Unsound f) k = absurd (k f refl)
+plain_status Closed k = refl
+plain_status DeadHandle k = refl
+plain_status Full k = refl
+plain_status ShortList k = refl
+plain_status TimeOverflow k = refl
+plain_status CounterBehind k = refl
+plain_status WrongMode k = refl
+plain_status ZeroPeriod k = refl
+plain_status NotFired k = refl
+plain_status VacantSlot k = refl
+plain_status BadRecord k = refl
+plain_status BadImage k = refl
+
+-- 1 has the fault beside its number
+pub fault_status : (w : Refusal) (f : Fault) (n k a : ℕ) → w ≡ Unsound f → n ≡ number_of w → k ≡ kind_of f → a ≡ where_of f
+    → n + k * 256 + a % 4294967296 * 65536 ≡ status_of {A = Nothing} (refuse w)
+fault_status w f n k a e p q r = rw (p, q, r, e)
 
 -- the status of an answer
 pub answer_status : (r : Result Reply Refusal) → status_in r ≡ status_of (said r)
