@@ -72,9 +72,10 @@ impl Tell for u64 {
 }
 
 impl Tell for i64 {
-    // A time that is left.
+    // A time that is left: its sign, and how far it is from zero.
     fn tell(self, rt: &impl Print) -> io::Result<()> {
-        print!(rt; "{self}")
+        let sign = if self < 0 { "-" } else { "" };
+        print!(rt; "{sign}{}", refusals::time::size(self))
     }
 }
 

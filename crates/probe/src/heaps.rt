@@ -29,7 +29,8 @@ fn call_of(r: Record) -> Option<Call> {
     }
 }
 
-// Makes the call of a record on a heap and tells of it.
+// Makes the call of a record on a heap and tells of it. (Not part of its caller, for the room that it takes on the stack.)
+#[inline(never)]
 pub fn told(h: &mut Heap, r: Record, out: &mut Output) {
     let Some(call) = call_of(r) else {
         return out.unknown();

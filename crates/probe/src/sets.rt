@@ -21,7 +21,9 @@ enum Wish {
     Word { handle: Handle, word: u32 },
 }
 
-// Does what a record asks of a set and tells of it.
+// Does what a record asks of a set and tells of it. (Not part of its caller: what it has on its stack is asked for at each entry, and
+// would be for the records of a heap and of a clock too.)
+#[inline(never)]
 pub fn told(s: &mut Set, r: Record, out: &mut Output) {
     let Some(wish) = wish_of(r) else {
         return out.unknown();

@@ -19,12 +19,12 @@ enum Ending {
 }
 
 impl fmt::Display for Ending {
-    // The last line of a replay, without its newline.
+    // The last line of a replay. Its newline is part of it, so that the line is one write, and whole or not there.
     fn fmt<W: fmt::Write>(&self, f: &mut fmt::Formatter<W>) -> fmt::Result {
         f.write_str(match self {
-            Ending::Whole => "end",
-            Ending::Short => "end short",
-            Ending::FailedRead => "failed read",
+            Ending::Whole => "end\n",
+            Ending::Short => "end short\n",
+            Ending::FailedRead => "failed read\n",
         })
     }
 }
@@ -72,7 +72,7 @@ fn main(rt: HostRuntime) -> io::Result<()> {
     let mut output = rt.stdout();
     writeln!(output, "timers {CAP}")?;
     if let Some(ending) = replayed(&mut input, &mut output)? {
-        writeln!(output, "{ending}")?;
+        write!(output, "{ending}")?;
     }
     Ok(())
 }
