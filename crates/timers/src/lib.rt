@@ -93,7 +93,10 @@ impl Timing {
 fn guarded(s: Set) -> Result<(), Refusal>
     ensures { Guards s result }
 {
-    state::fault::first_fault(s).map_err(Refusal::Unsound)
+    match state::fault::first_fault(s) {
+        Ok(()) => Ok(()),
+        Err(fault) => Err(Refusal::Unsound(fault)),
+    }
 }
 
 // A call that a closed set refuses begins here.
@@ -221,7 +224,10 @@ pub fn next_wake(s: Set) -> Outcome<Set, Reply>
     if let Err(why) = guarded(s) {
         return Outcome::kept(s, why);
     }
-    Outcome::given(s, Reply::Wake(heap::peek_sound(s.heap).map(|e| e.at)))
+    match heap::peek_sound(s.heap) {
+        Some(head) => Outcome::given(s, Reply::Wake(Some(head.at))),
+        None => Outcome::given(s, Reply::Wake(None)),
+    }
 }
 
 // Whether a live timer has fired, is gone or is pending.
