@@ -20,8 +20,9 @@ pub struct Pen<'a> {
 
 impl Pen<'_> {
     // Puts a whole line.
-    pub fn line(&mut self, line: Line, list: &[u64; heap::CAP])
-        requires { HasRoom room self.old }
+    pub fn line(&mut self, line: Line, list: &[u64])
+        requires list_len_bound { length list.now ≤ cap }
+        requires room_in_bounds { HasRoom room self.old }
         ensures { PutsLine line list.now self.old self.new }
     {
         match line {
@@ -44,8 +45,9 @@ impl Pen<'_> {
     }
 
     // Puts what a call answered: 0 and the values, or the refusal.
-    fn answer(&mut self, reply: Result<Reply, Refusal>, wake: Option<u64>, list: &[u64; heap::CAP])
-        requires { HasRoom answer_room self.old }
+    fn answer(&mut self, reply: Result<Reply, Refusal>, wake: Option<u64>, list: &[u64])
+        requires list_len_bound { length list.now ≤ cap }
+        requires answer_room_in_bounds { HasRoom answer_room self.old }
         ensures { PutsAnswer reply wake list.now self.old self.new }
     {
         match reply {
@@ -58,8 +60,9 @@ impl Pen<'_> {
     }
 
     // Puts the values of an accepted call.
-    fn values(&mut self, values: Reply, wake: Option<u64>, list: &[u64; heap::CAP])
-        requires { HasRoom (report_room cap) self.old }
+    fn values(&mut self, values: Reply, wake: Option<u64>, list: &[u64])
+        requires list_len_bound { length list.now ≤ cap }
+        requires report_room_in_bounds { HasRoom (report_room cap) self.old }
         ensures { PutsValues values wake list.now self.old self.new }
     {
         match values {
@@ -68,7 +71,7 @@ impl Pen<'_> {
                 self.number(handle.uses as u64)
             }
             Reply::Done => {}
-            Reply::Ran { reported, .. } => self.report(&list[..reported.min(heap::CAP)], wake),
+            Reply::Ran { reported, .. } => self.report(&list[..reported.min(list.len())], wake),
             Reply::Wake(next) => self.wake(next),
             Reply::Found(p) => self.number(polled(p)),
             Reply::Ticked(t) => self.number(t),

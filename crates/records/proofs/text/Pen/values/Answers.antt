@@ -8,8 +8,6 @@ use native.Mathlib.Omega.{arith}
 use native.Mathlib.Decide.{dec_lt}
 use lib.ListN.{length, take, length-take}
 use lib.Seq.{take_all}
-use borrow.Author.Rules.{rules}
-use Rattle.heap.specs.Capacity.{cap}
 use Rattle.records.specs.Answers.{said_wake}
 use Rattle.records.specs.Lines.{decimal, spaced, report_text, values_text}
 use Rattle.records.proofs.Putting.{puts_none, puts_then, puts_same}
@@ -33,11 +31,10 @@ pub returns-in-Ran : goal.returns-in-Ran
 unfolding values_text
 returns-in-Ran c =
     let l = c.args.list.now in
-    let e : length l ≡ cap = search rules in
-    let q : c.min.result ≡ min c.in-Ran.reported (length l) = omega (arith, c.min.ensures) in
     rw c.in-Ran.is
-    (puts_same c.report.ensures (ap (λ (ws : List ℕ). report_text ws (said_wake c.args.wake)) (take_least c.in-Ran.reported c.min.result l q))
-    (omega (arith, c.min.ensures, length-take c.min.result l)))
+    (puts_same c.report.ensures
+    (ap (λ (ws : List ℕ). report_text ws (said_wake c.args.wake)) (take_least c.in-Ran.reported c.min.result l c.min.ensures))
+    (omega (arith, c.min.ensures, length-take c.min.result l, c.requires.list_len_bound)))
 
 pub returns-in-Wake : goal.returns-in-Wake
 unfolding values_text
