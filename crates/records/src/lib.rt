@@ -64,13 +64,12 @@ pub fn answer(s: Set, call: Call, list: &mut [u64]) -> Answered
 pub fn replay(s: Set, bytes: [u8; 14], list: &mut [u64]) -> Outcome<Set, Made>
     ensures { Replays s bytes list.old result list.new }
 {
-    match decode(bytes) {
-        Ok(call) => {
-            let a = answer(s, call, list);
-            Outcome::given(a.set, a.made)
-        }
-        Err(why) => Outcome::kept(s, why),
-    }
+    let call = match decode(bytes) {
+        Ok(call) => call,
+        Err(why) => return Outcome::kept(s, why),
+    };
+    let a = answer(s, call, list);
+    Outcome::given(a.set, a.made)
 }
 
 // Writes a line at the start of the lent bytes, and answers how long it is. The reports are read from the list that was lent to the

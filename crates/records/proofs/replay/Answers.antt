@@ -19,9 +19,9 @@ unread_why : (s : Set) (l : List ℕ) (r : Refusal) → ◌≡◌ {A = Answered}
 unread_why s l r =
     any_refusal {A = Nothing} (λ a. record { state = lent s l; told = unread a }) (λ a. answer_by s a l) (λ n. refl) (λ x. refl) r
 
-pub returns-in-Ok : goal.returns-in-Ok
+pub returns : goal.returns
 unfolding replay_of
-returns-in-Ok c =
+returns c =
     let a = c.args in
     ap (λ (o : Code.Outcome Set Made). replayed_by o c.answer-a.new.list) c.given.ensures ∙ c.answer-a.ensures
     ∙ ap (λ (x : Answer Call). answer_by a.s x a.list.now) c.in-Ok.ensures
