@@ -29,12 +29,17 @@ fn call_of(r: Record) -> Option<Call> {
     }
 }
 
-// Makes the call of a record on a heap and tells of it. (Not part of its caller, for the room that it takes on the stack.)
-#[inline(never)]
+// Makes the call of a record on a heap and tells of it, where there is such a call.
 pub fn told(h: &mut Heap, r: Record, out: &mut Output) {
-    let Some(call) = call_of(r) else {
-        return out.unknown();
-    };
+    match call_of(r) {
+        Some(call) => made(h, r, call, out),
+        None => out.unknown(),
+    }
+}
+
+// Makes a call on a heap and tells of it. (Not part of its caller, for the room that it takes on the stack.)
+#[inline(never)]
+fn made(h: &mut Heap, r: Record, call: Call, out: &mut Output) {
     out.number(r.op as u64);
     match call {
         Call::Push { due } => pushed(h, heap::push(*h, due, 0, Place(0)), out),

@@ -21,13 +21,18 @@ enum Wish {
     Word { handle: Handle, word: u32 },
 }
 
-// Does what a record asks of a set and tells of it. (Not part of its caller: what it has on its stack is asked for at each entry, and
-// would be for the records of a heap and of a clock too.)
-#[inline(never)]
+// Does what a record asks of a set and tells of it, where it asks something.
 pub fn told(s: &mut Set, r: Record, out: &mut Output) {
-    let Some(wish) = wish_of(r) else {
-        return out.unknown();
-    };
+    match wish_of(r) {
+        Some(wish) => granted(s, r, wish, out),
+        None => out.unknown(),
+    }
+}
+
+// Does what is asked of a set and tells of it. (Not part of its caller: what it has on its stack is asked for at each entry, and would
+// be for the records of a heap and of a clock too, and for those that ask nothing.)
+#[inline(never)]
+fn granted(s: &mut Set, r: Record, wish: Wish, out: &mut Output) {
     out.number(r.op as u64);
     match wish {
         Wish::Call(call) => performed(s, call, out),

@@ -19,7 +19,7 @@ enum Ending {
 }
 
 impl fmt::Display for Ending {
-    // The last line of a replay. Its newline is part of it, so that the line is one write, and whole or not there.
+    // The last line of a replay. Its newline is part of it, so that the line is one write.
     fn fmt<W: fmt::Write>(&self, f: &mut fmt::Formatter<W>) -> fmt::Result {
         f.write_str(match self {
             Ending::Whole => "end\n",
