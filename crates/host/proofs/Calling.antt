@@ -39,7 +39,7 @@ use Rattle.image.proofs.Calling.{write_by}
 use Rattle.image.proofs.Accepted.{taken_image, taken_widths, taken_sound}
 use Rattle.host.specs.Numbers.{status_of}
 use Rattle.host.specs.Calls.{on_reading, on_image, image_after, pictured, fresh_on}
-use Rattle.host.specs.Promises.{end_of, given, Leaves}
+use Rattle.host.specs.Promises.{left, end_of, given, Leaves}
 
 module _ {S : Type 0} (b : List ℕ) (k : S) (f : Set → Outcome S Value) (r : Code.Outcome Set ⊤) (e : told_reading r ≡ read_of b) where
   by_reading : (y : Result ⊤ Refusal) → r.answer ≡ y → on_image b k f ≡ on_reading k f r.state (Image.said y)
@@ -55,6 +55,11 @@ module _ {S : Type 0} (b : List ℕ) (k : S) (f : Set → Outcome S Value) (r : 
   -- else the call is that on the set
   pub read_done : {u : ⊤} → r.answer ≡ Ok u → on_image b k f ≡ f r.state
   read_done {u} g = by_reading (Ok u) g
+
+-- what `read` refuses leaves the image
+pub call_barred : (b : List ℕ) (f : Set → Outcome Set Value) (r : Code.Outcome Set ⊤) → told_reading r ≡ read_of b → (w : Refusal) → r.answer ≡ Err w
+    → {x : Result Reply Refusal} → x ≡ Err w → left b x ≡ on_image b b (λ s. pictured b (f s))
+call_barred b f r e w g q = ap (left b) q ∙ sym (read_refused b b (λ s. pictured b (f s)) r e w g)
 
 -- a sound set over bytes of an image's length
 sound_written : (b : List ℕ) (s : Set) → length b ≡ size → Sound s → write_of s b ≡ done (image_of s)
@@ -99,6 +104,11 @@ module _ (b : List ℕ) (r : Code.Outcome Set ⊤) (y : Bytes b) (e : told_readi
     call_ended =
         p ∙ ap (λ (o : Outcome Set Value). end_of b o.answer o.state) t
         ∙ ended_as b (step r.state c l).state.set (step r.state c l).answer (after_written c l)
+
+    -- so by the rules, where the call is f on the set
+    pub call_left : (f : Set → Outcome Set Value) → record { state = (step r.state c l).state.set; answer = (step r.state c l).answer } ≡ f r.state
+        → x ≡ on_image b b (λ s. pictured b (f s))
+    call_left f q = call_ended ∙ ap (pictured b) q ∙ sym (read_done b b (λ s. pictured b (f s)) r e g)
 
     pub call_said : x.answer ≡ said a.answer
     call_said = ap (λ (o : Outcome (List ℕ) Value). o.answer) call_ended ∙ sym (ap (λ (o : Outcome Set Value). o.answer) t)

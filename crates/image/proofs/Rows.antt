@@ -20,7 +20,7 @@ use Rattle.heap.specs.declared.SlabSlot.{SlabSlot}
 use Rattle.digits.specs.Digits.{zeros_at}
 use Rattle.digits.specs.Promises.{Puts}
 use Rattle.digits.specs.Rows.{rows, blocks, used}
-use Rattle.digits.proofs.Passing.{all_ext}
+use Rattle.digits.proofs.Passing.{all_ext, two_tests}
 use Rattle.digits.proofs.Rows.{rows_ext, used_in}
 use Rattle.state.specs.State.{no_timer}
 use Rattle.state.specs.declared.Set.{Set}
@@ -48,13 +48,6 @@ passed false x y e = cc
 pub found_ok : {A : Type 0} (b : Bool) (x : A) {o : Option A} {r : Result A A} → o ≡ result_ok r → r ≡ cond b (Ok x) (Err x) → o ≡ then_some b x
 found_ok true x p q = p ∙ ap result_ok q
 found_ok false x p q = p ∙ ap result_ok q
-
--- two tests of two things, in either order
-two_tests : (a b c d : Bool) → ((a && b) && (c && d)) ≡ ((a && c) && (b && d))
-two_tests true true c d = refl
-two_tests true false true d = refl
-two_tests true false false d = refl
-two_tests false b c d = refl
 
 -- four parts, each with two tests
 four : (a b c d w x y z : Bool) → ((a && b && c && d) && (w && x && y && z)) ≡ ((a && w) && (b && x) && (c && y) && (d && z))

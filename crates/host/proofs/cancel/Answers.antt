@@ -1,35 +1,27 @@
 -- The cancel in the set that was read, whose set is written back.
 -- Assumes nothing.
-use mathlib.Core.Path.{◌≡◌, sym, ap, ◌∙◌}
+use mathlib.Core.Path.{refl, ap, ◌∙◌}
 use mathlib.Core.List.{[]}
 use borrow.Author.Rules.{rules}
-use Rattle.std.specs.Prelude.{Err}
 use Rattle.state.specs.declared.Handle.{Handle}
-use Rattle.state.specs.declared.Set.{Set}
 use Rattle.timers.specs.declared.Call.TheVariants as C
 use Rattle.timers.specs.Calls.{cancel_of, step}
 use Rattle.host.specs.Numbers.{handle_from}
-use Rattle.host.specs.Calls.{pictured, cancel_on}
-use Rattle.host.specs.Promises.{left}
-use Rattle.host.proofs.Calling.{read_refused, read_done, call_ended, bytes}
+use Rattle.host.specs.Calls.{cancel_on}
+use Rattle.host.proofs.Calling.{call_barred, call_left, bytes}
 use Rattle.host.proofs.cancel.Goals as goal
 
 pub returns-in_err-found : goal.returns-in_err-found
 unfolding cancel_on
 returns-in_err-found c =
     let a = c.args in
-    let b = a.image.now in
-    let w = c.in_err-found.field-0.0 in
-    let q : c.from_residual.result ≡ Err w = search rules in
-    ap (left b) q
-    ∙ sym (read_refused b b (λ (s : Set). pictured b (cancel_of s (handle_from a.handle))) c.read-found.result c.read-found.ensures w c.in_err-found.was)
+    call_barred a.image.now (λ s. cancel_of s (handle_from a.handle)) c.read-found.result c.read-found.ensures c.in_err-found.field-0.0 c.in_err-found.was (search rules)
 
 pub returns : goal.returns
 unfolding cancel_on step
 returns c =
     let a = c.args in
-    let b = a.image.now in
     let r = c.read-found.result in
-    call_ended b r (bytes (λ j. search rules)) c.read-found.ensures c.in_ok-found.was (C.Cancel (handle_from a.handle)) [] c.cancel.result
+    call_left a.image.now r (bytes (λ j. search rules)) c.read-found.ensures c.in_ok-found.was (C.Cancel (handle_from a.handle)) [] c.cancel.result
     (c.cancel.ensures ∙ ap (λ (h : Handle). cancel_of r.state h) c.handle_from.ensures) c.ended.ensures
-    ∙ sym (read_done b b (λ (s : Set). pictured b (cancel_of s (handle_from a.handle))) r c.read-found.ensures c.in_ok-found.was)
+    (λ s. cancel_of s (handle_from a.handle)) refl
