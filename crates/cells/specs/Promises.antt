@@ -1,6 +1,7 @@
 -- What each function promises of its answer r, and of the lent bytes as they are afterwards.
 -- Assumes nothing.
-use Rattle.std.specs.Prelude.{◌≡◌, ◌&&◌, cond, List, ℕ, Result, Ok, Err}
+use Rattle.std.specs.Prelude.{◌≡◌, ◌&&◌, cond, List, ℕ, Option, Result, Ok, Err}
+use Rattle.std.specs.Bool.{then_some}
 use Rattle.digits.specs.Promises.{Puts}
 use Rattle.heap.specs.declared.Entry.{Entry}
 use Rattle.heap.specs.declared.SlabSlot.{SlabSlot}
@@ -27,11 +28,21 @@ PutsTimer t out at out' r = Puts 19 out at (timer_bytes t) out' r
 abbrev pub FindsHeader : List ℕ → ℕ → Result Header Header → Type 0
 FindsHeader l i r = r ≡ cond (header_clear l i && header_in l i) (Ok (header_of l i)) (Err (header_of l i))
 
-abbrev pub FindsEntry : List ℕ → ℕ → Result Entry Entry → Type 0
-FindsEntry l i r = r ≡ cond (entry_clear l i && entry_in l i) (Ok (entry_of l i)) (Err (entry_of l i))
+abbrev pub FindsAnyEntry : List ℕ → ℕ → Result Entry Entry → Type 0
+FindsAnyEntry l i r = r ≡ cond (entry_clear l i && entry_in l i) (Ok (entry_of l i)) (Err (entry_of l i))
 
-abbrev pub FindsSlot : List ℕ → ℕ → Result SlabSlot SlabSlot → Type 0
-FindsSlot l i r = r ≡ cond (slot_clear l i && slot_in l i) (Ok (slot_of l i)) (Err (slot_of l i))
+abbrev pub FindsAnySlot : List ℕ → ℕ → Result SlabSlot SlabSlot → Type 0
+FindsAnySlot l i r = r ≡ cond (slot_clear l i && slot_in l i) (Ok (slot_of l i)) (Err (slot_of l i))
 
-abbrev pub FindsTimer : List ℕ → ℕ → Result Timer Timer → Type 0
-FindsTimer l i r = r ≡ cond (timer_clear l i && timer_in l i) (Ok (timer_of l i)) (Err (timer_of l i))
+abbrev pub FindsAnyTimer : List ℕ → ℕ → Result Timer Timer → Type 0
+FindsAnyTimer l i r = r ≡ cond (timer_clear l i && timer_in l i) (Ok (timer_of l i)) (Err (timer_of l i))
+
+-- and what they are read as where they pass, alone
+abbrev pub FindsEntry : List ℕ → ℕ → Option Entry → Type 0
+FindsEntry l i r = r ≡ then_some (entry_clear l i && entry_in l i) (entry_of l i)
+
+abbrev pub FindsSlot : List ℕ → ℕ → Option SlabSlot → Type 0
+FindsSlot l i r = r ≡ then_some (slot_clear l i && slot_in l i) (slot_of l i)
+
+abbrev pub FindsTimer : List ℕ → ℕ → Option Timer → Type 0
+FindsTimer l i r = r ≡ then_some (timer_clear l i && timer_in l i) (timer_of l i)

@@ -3,19 +3,23 @@
 // arrays are a `Cell` each.
 //
 // Bytes pass exactly where they are those of a record whose numbers fit; what is read of bytes that pass has these bytes. What is
-// read of others is a record all the same, which an `Err` hands out, and means nothing.
+// read of others is a record all the same, which an `Err` hands out, and means nothing: `read` of a header and `read_any` of a cell do
+// so, and `read` of a cell answers bytes that pass alone.
 #![tactic(auto)]
 
 mod columns;
 mod parts;
+#[cfg(test)]
+mod tests;
 
 ghost use Rattle.std.specs.Prelude.{◌+◌, ◌≤◌, ◌≡◌, ◌&&◌, Bool, cond, List, ℕ, length, Ok, Err};
+ghost use Rattle.std.specs.Bool.{then_some};
 ghost use Rattle.digits.specs.Promises.{Puts};
 ghost use Rattle.heap.specs.Rules.{no_entry};
 ghost use Rattle.state.specs.State.{no_timer};
 ghost use Rattle.cells.specs.Cells.{entry_bytes, entry_of, slot_bytes, slot_of, zero_slot, timer_bytes, timer_of};
 ghost use Rattle.cells.specs.Fine.{entry_clear, entry_in, slot_clear, slot_in, timer_clear, timer_in};
-ghost use Rattle.cells.specs.Promises.{PutsHeader, FindsHeader, PutsEntry, FindsEntry, PutsSlot, FindsSlot, PutsTimer, FindsTimer};
+ghost use Rattle.cells.specs.Promises.{PutsHeader, FindsHeader, PutsEntry, FindsEntry, FindsAnyEntry, PutsSlot, FindsSlot, FindsAnySlot, PutsTimer, FindsTimer, FindsAnyTimer};
 
 use heap::{Entry, Place, Pos, SlabSlot, Slot, SlotState};
 use state::{Life, Timer, Waiting};
@@ -49,11 +53,20 @@ pub trait Cell: Copy {
         requires { at + SIZE ≤ length out.old }
         ensures { Puts SIZE out.old at (bytes_of self) out.new result };
 
-    // The record that the bytes are read as: an `Err` where they do not pass.
-    fn read(bytes: &[u8], at: usize) -> Result<Self, Self>
+    // The record that the bytes are read as, where they pass.
+    fn read(bytes: &[u8], at: usize) -> Option<Self>
         requires { at + SIZE ≤ length bytes.now }
         ensures { result
-            ≡ cond (clear bytes.now at && within bytes.now at) (Ok (read_as bytes.now at)) (Err (read_as bytes.now at)) };
+            ≡ then_some (clear bytes.now at && within bytes.now at) (read_as bytes.now at) };
+}
+
+// A cell that says what any bytes are read as, those that do not pass too.
+pub trait ReadAny: Cell {
+    // The record that the bytes are read as: an `Err` where they do not pass.
+    fn read_any(bytes: &[u8], at: usize) -> Result<Self, Self>
+        requires { at + Self.SIZE ≤ length bytes.now }
+        ensures { result
+            ≡ cond (Self.clear bytes.now at && Self.within bytes.now at) (Ok (Self.read_as bytes.now at)) (Err (Self.read_as bytes.now at)) };
 }
 
 // What an image has of a set beside its entries, slots and timers.
@@ -148,9 +161,18 @@ impl Cell for Entry {
         digits::put(out, at, 1, u64::from(self.slot.0))
     }
 
-    fn read(bytes: &[u8], at: usize) -> Result<Entry, Entry>
+    fn read(bytes: &[u8], at: usize) -> Option<Entry>
         requires { at + 14 ≤ length bytes.now }
         ensures { FindsEntry bytes.now at result }
+    {
+        Entry::read_any(bytes, at).ok()
+    }
+}
+
+impl ReadAny for Entry {
+    fn read_any(bytes: &[u8], at: usize) -> Result<Entry, Entry>
+        requires { at + 14 ≤ length bytes.now }
+        ensures { FindsAnyEntry bytes.now at result }
     {
         let deadline = digits::number(bytes, at, 8);
         let generation = digits::number(bytes, at + 8, 4);
@@ -201,9 +223,18 @@ impl Cell for SlabSlot {
         digits::put(out, at, 2, parts::slot_number(self.state))
     }
 
-    fn read(bytes: &[u8], at: usize) -> Result<SlabSlot, SlabSlot>
+    fn read(bytes: &[u8], at: usize) -> Option<SlabSlot>
         requires { at + 2 ≤ length bytes.now }
         ensures { FindsSlot bytes.now at result }
+    {
+        SlabSlot::read_any(bytes, at).ok()
+    }
+}
+
+impl ReadAny for SlabSlot {
+    fn read_any(bytes: &[u8], at: usize) -> Result<SlabSlot, SlabSlot>
+        requires { at + 2 ≤ length bytes.now }
+        ensures { FindsAnySlot bytes.now at result }
     {
         let n = digits::number(bytes, at, 2);
         let spare = columns::slot_spare(n);
@@ -256,9 +287,18 @@ impl Cell for Timer {
         digits::put(out, at, 8, life.due)
     }
 
-    fn read(bytes: &[u8], at: usize) -> Result<Timer, Timer>
+    fn read(bytes: &[u8], at: usize) -> Option<Timer>
         requires { at + 19 ≤ length bytes.now }
         ensures { FindsTimer bytes.now at result }
+    {
+        Timer::read_any(bytes, at).ok()
+    }
+}
+
+impl ReadAny for Timer {
+    fn read_any(bytes: &[u8], at: usize) -> Result<Timer, Timer>
+        requires { at + 19 ≤ length bytes.now }
+        ensures { FindsAnyTimer bytes.now at result }
     {
         let tags = digits::number(bytes, at, 1);
         let next = digits::number(bytes, at + 1, 1);

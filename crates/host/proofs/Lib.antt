@@ -1,5 +1,6 @@
 pub mod Calling
 pub mod Settled
 pub mod Turning
+pub mod Lent
 pub mod NoSecond
 pub mod Refused

@@ -30,7 +30,7 @@ use Rattle.host.proofs.Calling.{read_refused, read_done, taken, after_written, c
 use Rattle.host.proofs.Settled.{told_refused, no_count}
 
 -- what report bytes hold after a turn with a list
-abbrev reports_of : List ℕ → Outcome (List ℕ × List ℕ) Value → Outcome Board Value
+abbrev pub reports_of : List ℕ → Outcome (List ℕ × List ℕ) Value → Outcome Board Value
 reports_of out o = record {
   state = record { image = o.state.0; reports = reported_in out (reports_in o.answer) o.state.1 };
   answer = o.answer;
@@ -56,7 +56,7 @@ pub record TurnTold (o : Outcome Board Value) (b' : List ℕ) (n : ℕ) (a : Ans
   pub reports : reported_in out (reports_in a) l' ≡ o.state.reports
 
 -- so many words as the report bytes have room for
-room_within : {n m k : ℕ} {l' : List ℕ} → Lists n (take m (replicate cap 0)) l' → m ≡ min (k / 8) cap → n * 8 ≤ k
+pub room_within : {n m k : ℕ} {l' : List ℕ} → Lists n (take m (replicate cap 0)) l' → m ≡ min (k / 8) cap → n * 8 ≤ k
 room_within {n} {m} {k} w e =
     let h : n ≤ m = omega (arith, w.within, length-take m (replicate {A = ℕ} cap 0), length-replicate {A = ℕ} cap 0) in
     let i : n ≤ k / 8 = omega (arith, e) in

@@ -1,4 +1,4 @@
--- Neither call has a second answer; and a refused write leaves the bytes.
+-- Neither call has a second answer; a refused read hands out the fresh set, and a refused write leaves the bytes.
 -- Assumes nothing.
 use mathlib.Core.Path.{◌≡◌, refl}
 use mathlib.Core.Bool.{Bool, true, false, cond}
@@ -16,10 +16,11 @@ use Rattle.refusals.specs.declared.Refusal.{Refusal}
 use Rattle.refusals.specs.declared.Refusal.TheVariants.{BadImage}
 use Rattle.refusals.specs.Answer.{refuse, Outcome, Nothing, kept, is_accepted}
 use Rattle.refusals.proofs.Apart.{result_of, result_back, told_by_apart}
+use Rattle.state.specs.State.{fresh_of}
 use Rattle.state.specs.Faults.{fault_of}
 use Rattle.state.specs.declared.Set.{Set}
-use Rattle.image.specs.Image.{size}
-use Rattle.image.specs.Calls.{told_reading, told_writing, read_of, written_by, write_of}
+use Rattle.image.specs.Image.{size, image_fine, set_from}
+use Rattle.image.specs.Calls.{barred, told_reading, told_writing, read_by, read_of, written_by, write_of}
 use Rattle.image.specs.Promises.{Reads, Writes}
 
 -- what is read, or is written, is told by what is said of it
@@ -36,6 +37,17 @@ read_no_second = by_rule told_reading read_of reading_apart
 
 pub write_no_second : NoSecond (λ (q : Set × List ℕ) (r : List ℕ × Result ⊤ Refusal). Writes q.0 q.1 r.0 r.1)
 write_no_second = by_rule (λ (r : List ℕ × Result ⊤ Refusal). told_writing r.0 r.1) (λ (q : Set × List ℕ). write_of q.0 q.1) writing_apart
+
+-- a read that is not accepted hands out the fresh set
+pub refused_fresh : (l : List ℕ) → is_accepted (read_of l).answer ≡ false → (read_of l).state ≡ fresh_of
+unfolding read_of
+refused_fresh l e = go (image_fine l) (fault_of (set_from l)) e
+  where
+    go : (b : Bool) (o : Option Fault) → is_accepted (cond b (read_by (set_from l) o) (barred BadImage)).answer ≡ false
+        → (cond b (read_by (set_from l) o) (barred BadImage)).state ≡ fresh_of
+    go true none e = true_false refl e
+    go true (some x) e = refl
+    go false o e = refl
 
 -- a write that is not accepted leaves every byte as it was
 pub refused_kept : (s : Set) (out : List ℕ) → is_accepted (write_of s out).answer ≡ false → (write_of s out).state ≡ out

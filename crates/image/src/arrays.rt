@@ -3,7 +3,7 @@
 ghost use Rattle.std.specs.Prelude.{cond, ◌≡◌, ◌+◌, ◌*◌, ◌≤◌, length};
 ghost use Rattle.image.specs.Promises.{PutsRows, FindsRow, FindsRows};
 
-use cells::Cell;
+use cells::{Cell, ReadAny};
 
 // Puts the records of an array, of which the first few are in use, and answers the offset behind them.
 pub fn put_rows<T: Cell>(out: &mut [u8], at: usize, all: &[T], used: usize) -> usize
@@ -19,19 +19,19 @@ pub fn put_rows<T: Cell>(out: &mut [u8], at: usize, all: &[T], used: usize) -> u
 }
 
 // The record that the bytes are read as where it is in use; where it is not, they must be zero.
-fn read_row<T: Cell>(bytes: &[u8], at: usize, used: bool) -> Option<T>
+fn read_row<T: ReadAny>(bytes: &[u8], at: usize, used: bool) -> Option<T>
     requires { at + T.SIZE ≤ length bytes.now }
     ensures { FindsRow T.clear T.within T.read_as T.blank T.SIZE used bytes.now at result }
 {
     if used {
-        T::read(bytes, at).ok()
+        T::read_any(bytes, at).ok()
     } else {
         digits::zeros(bytes, at, T::SIZE).then_some(T::unused())
     }
 }
 
 // Reads the records of an array, of which the first few are in use, where the bytes of each pass.
-pub fn read_rows<T: Cell>(bytes: &[u8], at: usize, all: &mut [T], used: usize) -> Option<()>
+pub fn read_rows<T: ReadAny>(bytes: &[u8], at: usize, all: &mut [T], used: usize) -> Option<()>
     requires { at + length all.old * T.SIZE ≤ length bytes.now }
     ensures { FindsRows T.clear T.within T.read_as T.blank T.SIZE (length all.old) used bytes.now at all.new result }
 {

@@ -4,7 +4,7 @@ use Rattle.std.proofs.Common.{rules}
 use Rattle.cells.specs.Cells.{slot_of}
 use Rattle.cells.specs.Fine.{slot_clear, slot_in}
 use Rattle.cells.proofs.Found.{both_pass, one_fails}
-use Rattle.cells.proofs.SlabSlotCell.read.Goals as goal
+use Rattle.cells.proofs.SlabSlotReadAny.read_any.Goals as goal
 
 pub returns-then-ranges : goal.returns-then-ranges
 unfolding slot_of slot_clear slot_in

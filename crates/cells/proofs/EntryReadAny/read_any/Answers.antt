@@ -4,7 +4,7 @@ use Rattle.std.proofs.Common.{rules}
 use Rattle.cells.specs.Cells.{entry_of}
 use Rattle.cells.specs.Fine.{entry_clear, entry_in}
 use Rattle.cells.proofs.Found.{both_pass, one_fails}
-use Rattle.cells.proofs.EntryCell.read.Goals as goal
+use Rattle.cells.proofs.EntryReadAny.read_any.Goals as goal
 
 pub returns-then-ranges : goal.returns-then-ranges
 unfolding entry_of entry_clear entry_in

@@ -4,7 +4,7 @@ use Rattle.std.proofs.Common.{rules}
 use Rattle.cells.specs.Cells.{timer_of}
 use Rattle.cells.specs.Fine.{timer_clear, timer_in}
 use Rattle.cells.proofs.Found.{both_pass, one_fails}
-use Rattle.cells.proofs.TimerCell.read.Goals as goal
+use Rattle.cells.proofs.TimerReadAny.read_any.Goals as goal
 
 pub returns-then-ranges : goal.returns-then-ranges
 unfolding timer_of timer_clear timer_in
