@@ -37,7 +37,7 @@ FindsAnySlot l i r = r ≡ cond (slot_clear l i && slot_in l i) (Ok (slot_of l i
 abbrev pub FindsAnyTimer : List ℕ → ℕ → Result Timer Timer → Type 0
 FindsAnyTimer l i r = r ≡ cond (timer_clear l i && timer_in l i) (Ok (timer_of l i)) (Err (timer_of l i))
 
--- and what they are read as where they pass, alone
+-- and what they are read as where they pass, and nothing where they do not
 abbrev pub FindsEntry : List ℕ → ℕ → Option Entry → Type 0
 FindsEntry l i r = r ≡ then_some (entry_clear l i && entry_in l i) (entry_of l i)
 

@@ -17,7 +17,7 @@ use Rattle.timers.specs.declared.Reply.{Reply}
 use Rattle.timers.specs.declared.Reply.TheVariants as R
 use Rattle.timers.specs.Values.{Value, reports_in}
 use Rattle.timers.specs.Calls.{turn_of, said}
-use Rattle.laws.proofs.Widths.TurnList.{Lists, turn_list}
+use Rattle.laws.proofs.Widths.TurnList.{Lists, unreported, turn_list}
 use Rattle.image.specs.Calls.{read_of}
 use Rattle.image.proofs.Accepted.{accepted_set, accepted_image}
 use Rattle.host.specs.Numbers.{status_of, list_in, reported_in}
@@ -40,8 +40,8 @@ module _ (b : List ℕ) (N : ℕ) where
           let p = accepted_image b y t in
           let s = ap (λ (o : Outcome Set Nothing). o.state) (accepted_set b y t) in
           subst (λ (r : Set). Lists (reports_in (turn_of r N l).answer) l (turn_of r N l).state.list) (sym s) (turn_list _ p.sound p.widths N l)
-      go (refused n) e = record { long = refl; within = omega arith; rest = refl; small = λ i h. absurd (omega arith) }
-      go (unsound x) e = record { long = refl; within = omega arith; rest = refl; small = λ i h. absurd (omega arith) }
+      go (refused n) e = unreported (refused n) l refl
+      go (unsound x) e = unreported (unsound x) l refl
 
   module _ (out : List ℕ) (y : Bytes b) {b' l' : List ℕ} (r : Result Reply Refusal) {m : ℕ} (i : m ≡ min (length out / 8) cap)
       (e : left (b', l') r ≡ lent_on b N (take m (replicate cap 0))) where

@@ -31,7 +31,7 @@ pub record Lists (n : ℕ) (l m : List ℕ) : Type 0 where
   pub small : (i : ℕ) → i < n → get_or m i 0 < 2 ^ 64
 
 -- a list without a report
-unreported : (a : Answer Value) (l : List ℕ) → is_accepted a ≡ false → Lists (reports_in a) l l
+pub unreported : (a : Answer Value) (l : List ℕ) → is_accepted a ≡ false → Lists (reports_in a) l l
 unreported (accepted v) l e = true_false refl e
 unreported (refused n) l e = record { long = refl; within = omega arith; rest = refl; small = λ i b. absurd (omega arith) }
 unreported (unsound f) l e = record { long = refl; within = omega arith; rest = refl; small = λ i b. absurd (omega arith) }
